@@ -1,0 +1,127 @@
+-- A block that isn't linked: it is listed, or is put into the spare slot.
+use Rattle.std.proofs.Common.{◌≡◌, ◌≢◌, ◌⊎◌, inl, inr, ⊎_elim, ℕ, zero, suc, ◌+◌, ◌*◌, ◌-◌, ◌<◌, ◌≤◌, ◌==◌, Bool, true, false, List, [], ◌∷◌, length, take, drop, map, refl, sym, ◌∙◌, ap, subst, arith, Some, None, if◌then◌else◌}
+use Rattle.std.specs.Prelude.{Option, is_some, slice_range, ◌||◌}
+use Rattle.std.specs.List.{AllByRecursion}
+use Rattle.std.specs.Str.{bytes_eq}
+use Rattle.std.proofs.lemmas.Slice.Eq.{bytes_eq-Decides}
+use Rattle.dd_block.specs.declared.print.Fp.{Fp}
+use Rattle.dd_rig.specs.declared.device.Dev.TheVariants.{Flash, Disk}
+use Rattle.dd_rig.specs.Device.{write_bytes, overwrite}
+use Rattle.dd_rig.specs.World.{World, shown, on_device}
+use Rattle.dd_model.specs.declared.Kind.{Kind}
+use Rattle.dd_model.specs.declared.Kind.TheVariants.{Hit, Join, Miss}
+use Rattle.dd_model.specs.State.{State, Entry, content, is_linked, is_known}
+use Rattle.dd_model.specs.Step.{read_kind}
+use Rattle.dd_serve.specs.declared.rows.BRow.{BRow}
+use Rattle.dd_serve.specs.declared.rows.ARow.{ARow}
+use Rattle.dd_serve.specs.declared.cache.Cache.{Cache}
+use Rattle.dd_serve.specs.Rows.{Listed, has_slot, linked_block}
+use Rattle.dd_serve.specs.Holds.{Located, Sound, LinkHolds, Confirms, slot_block, slot_at, block_of, array_of, state_of, sizes_of, IsSound, entry_of}
+use Rattle.dd_serve.proofs.Listed.{number_same, number_other, number_eq, listed_all, clash, has_head, has_weaker}
+use Rattle.dd_serve.proofs.Refine.{of, same_block}
+use Rattle.dd_serve.proofs.Locates.{linked_known, known_here, known_nowhere, array_is, not_equal}
+use Rattle.dd_serve.proofs.Slots.{part_before, part_behind, part_here, slot_before}
+
+-- the kind of a read of an address that isn't linked
+kind_unlinked : (cache : Cache) (world : World) (address : ℕ) (block : List ℕ) (known : Bool) → linked_block address cache.lists.a ≡ None → block ≡ content (state_of cache world).array address
+    → is_known block (state_of cache world).blocks ≡ known → (if known then Join else Miss) ≡ read_kind (state_of cache world) address
+kind_unlinked cache world address block known none is k =
+    let blocks : List (List ℕ) = (state_of cache world).blocks in
+    sym (ap (λ b. if b then Hit else if is_known (content (state_of cache world).array address) blocks then Join else Miss) (linked_known address cache.lists.a ∙ ap is_some none)
+    ∙ ap (λ (b : List ℕ). if is_known b blocks then Join else Miss) (sym is) ∙ ap (λ b. if b then Join else Miss) k)
+
+pub joins : (printed : List ℕ → Fp) (cache : Cache) (world : World) (address : ℕ) (block : List ℕ) (row : BRow) → IsSound printed cache world → address < cache.blocks → linked_block address cache.lists.a ≡ None
+    → block ≡ block_of cache.block world address → Confirms (Some row) (printed block) block cache.block world cache.lists.b → Located printed cache world world address block Join row
+joins printed cache world address block row sound fits none is found =
+    let c : ℕ → List ℕ = slot_block cache.block world in
+    let same : block ≡ content (state_of cache world).array address = is ∙ sym (array_is cache world address fits) in
+    record {
+      kind_is = kind_unlinked cache world address block true none same (known_here c block row.slot cache.lists.b found.2 found.1);
+      block_is = same;
+      in_slot = found.1;
+      print_is = found.0;
+      agrees = λ s m. same_block c cache.lists.b sound.apart s row.slot m found.2 ∙ ap (λ (b : List ℕ). bytes_eq (c s) b) found.1;
+      state = refl;
+      sound = sound;
+      place = found.2;
+    }
+
+-- no row has the block where none has it with its fingerprint
+none_has : (printed : List ℕ → Fp) (c : ℕ → List ℕ) (block : List ℕ) (b : List BRow) → AllByRecursion (λ row. row.fp ≡ printed (c row.slot)) b → AllByRecursion (λ row. row.fp ≡ printed block → c row.slot ≢ block) b
+    → AllByRecursion (λ row. c row.slot ≢ block) b
+none_has printed c block [] prints none = tt
+none_has printed c block (x ∷ b) prints none = ((λ e. none.0 (prints.0 ∙ ap printed e) e), none_has printed c block b prints.1 none.1)
+
+-- rows whose slots show the same blocks
+map_slots : (c d : ℕ → List ℕ) (b : List BRow) → ((s : ℕ) → has_slot s b ≡ true → d s ≡ c s) → map (of d) b ≡ map (of c) b
+map_slots c d [] h = refl
+map_slots c d (x ∷ b) h = ap (λ (block : List ℕ). block ∷ map (of d) b) (h x.slot (has_head x b)) ∙ ap (λ (blocks : List (List ℕ)). c x.slot ∷ blocks) (map_slots c d b (λ s m. h s (has_weaker s x b m)))
+
+print_slots : (printed : List ℕ → Fp) (c d : ℕ → List ℕ) (b : List BRow) → ((s : ℕ) → has_slot s b ≡ true → d s ≡ c s) → AllByRecursion (λ row. row.fp ≡ printed (c row.slot)) b → AllByRecursion (λ row. row.fp ≡ printed (d row.slot)) b
+print_slots printed c d [] h all = tt
+print_slots printed c d (x ∷ b) h all = (all.0 ∙ ap printed (sym (h x.slot (has_head x b))), print_slots printed c d b (λ s m. h s (has_weaker s x b m)) all.1)
+
+link_slot : (printed : List ℕ → Fp) (c d : ℕ → List ℕ) (array : List (List ℕ)) (b : List BRow) → ((s : ℕ) → has_slot s b ≡ true → d s ≡ c s) → (address : ℕ) (fp : Fp) (link : Option ℕ)
+    → LinkHolds printed c array b address fp link → LinkHolds printed d array b address fp link
+link_slot printed c d array b h address fp None k = tt
+link_slot printed c d array b h address fp (Some s) k = (k.0, h s k.0 ∙ k.1, k.2 ∙ ap printed (sym (h s k.0)))
+
+link_slots : (printed : List ℕ → Fp) (c d : ℕ → List ℕ) (array : List (List ℕ)) (b : List BRow) → ((s : ℕ) → has_slot s b ≡ true → d s ≡ c s) → (a : List ARow)
+    → AllByRecursion (λ row. LinkHolds printed c array b row.address row.fp row.link) a → AllByRecursion (λ row. LinkHolds printed d array b row.address row.fp row.link) a
+link_slots printed c d array b h [] all = tt
+link_slots printed c d array b h (row ∷ a) all = (link_slot printed c d array b h row.address row.fp row.link all.0, link_slots printed c d array b h a all.1)
+
+sound_slots : (printed : List ℕ → Fp) (c d : ℕ → List ℕ) (array : List (List ℕ)) (lists : Listed) (spare : ℕ) → ((s : ℕ) → has_slot s lists.b ≡ true → d s ≡ c s) → Sound printed c array lists spare → Sound printed d array lists spare
+sound_slots printed c d array lists spare h sound = record {
+  apart = λ s t hs ht e. sound.apart s t hs ht (sym (h s hs) ∙ e ∙ h t ht);
+  slots = sound.slots;
+  prints = print_slots printed c d lists.b h sound.prints;
+  links = link_slots printed c d array lists.b h lists.a sound.links;
+  short = sound.short;
+  free = sound.free;
+  in_order = sound.in_order;
+}
+
+back : (a n : ℕ) → (a + n) - a ≡ n
+back a n = omega arith
+
+less_or_more : (a b : ℕ) → (a ≡ b → ⊥) → (a < b) ⊎ (b < a)
+less_or_more a b h = grind arith
+
+-- a slot that is written shows the block, and another one what it showed
+pub slot_written : (world : World) (slot n : ℕ) (block : List ℕ) → length block ≡ n → slot_at n slot + n ≤ length (shown Flash world)
+    → slot_block n (on_device Flash (write_bytes (slot_at n slot) block) world) slot ≡ block
+slot_written world slot n block size fits =
+    ap (λ k. take k (drop (slot_at n slot) (overwrite (slot_at n slot) block (shown Flash world)))) (back (slot_at n slot) n ∙ sym size)
+    ∙ part_here (slot_at n slot) block (shown Flash world) (omega (arith, size, fits))
+
+pub slot_kept : (world : World) (slot n : ℕ) (block : List ℕ) (s : ℕ) → length block ≡ n → (s ≡ slot → ⊥)
+    → slot_block n (on_device Flash (write_bytes (slot_at n slot) block) world) s ≡ slot_block n world s
+slot_kept world slot n block s size other = ⊎_elim
+    (λ (lt : s < slot). part_before (slot_at n s) ((slot_at n s + n) - slot_at n s) (slot_at n slot) block (shown Flash world) (omega (arith, slot_before s slot n lt, back (slot_at n s) n)))
+    (λ (gt : slot < s). ap (take ((slot_at n s + n) - slot_at n s)) (part_behind (slot_at n s) (slot_at n slot) block (shown Flash world) (omega (arith, slot_before slot s n gt, size))))
+    (less_or_more s slot other)
+
+pub misses : (printed : List ℕ → Fp) (cache : Cache) (old new : World) (address : ℕ) (block : List ℕ) → IsSound printed cache old → address < cache.blocks → linked_block address cache.lists.a ≡ None
+    → block ≡ block_of cache.block old address → Confirms None (printed block) block cache.block old cache.lists.b
+    → length block ≡ cache.block → slot_at cache.block cache.spare + cache.block ≤ length (shown Flash old) → new ≡ on_device Flash (write_bytes (slot_at cache.block cache.spare) block) old
+    → Located printed cache old new address block Miss (record { slot = cache.spare; fp = printed block })
+misses printed cache old new address block sound fits none is found size room e =
+    let after : World = on_device Flash (write_bytes (slot_at cache.block cache.spare) block) old in
+    let c : ℕ → List ℕ = slot_block cache.block old in
+    let d : ℕ → List ℕ = slot_block cache.block after in
+    let nowhere : AllByRecursion (λ row. c row.slot ≢ block) cache.lists.b = none_has printed c block cache.lists.b sound.prints found in
+    let differs = λ (s : ℕ) (m : has_slot s cache.lists.b ≡ true) (k : s ≡ cache.spare). clash {P = ⊥} (has_slot cache.spare cache.lists.b) (subst (λ u. has_slot u cache.lists.b ≡ true) k m) sound.free in
+    let kept = λ (s : ℕ) (m : has_slot s cache.lists.b ≡ true). slot_kept old cache.spare cache.block block s size (differs s m) in
+    let same : block ≡ content (state_of cache old).array address = is ∙ sym (array_is cache old address fits) in
+    let located : Located printed cache old after address block Miss (record { slot = cache.spare; fp = printed block }) = record {
+      kind_is = kind_unlinked cache old address block false none same (known_nowhere c block cache.lists.b nowhere);
+      block_is = same;
+      in_slot = slot_written old cache.spare cache.block block size room;
+      print_is = refl;
+      agrees = λ s m. number_other s cache.spare (differs s m) ∙ sym (not_equal (d s) block (λ k. listed_all (λ u. c u ≢ block) s cache.lists.b nowhere m (sym (kept s m) ∙ k)));
+      state = ap (λ (blocks : List (List ℕ)). record (state_of cache old) { blocks = blocks }) (map_slots c d cache.lists.b kept);
+      sound = sound_slots printed c d (array_of cache.block cache.blocks (shown Disk old)) cache.lists cache.spare kept sound;
+      place = refl;
+    } in
+    subst (λ (w : World). Located printed cache old w address block Miss (record { slot = cache.spare; fp = printed block })) (sym e) located

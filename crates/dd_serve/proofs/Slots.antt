@@ -1,0 +1,38 @@
+-- A slot that is written, and the others.
+use Rattle.std.proofs.Common.{◌≡◌, ◌⊎◌, inl, inr, ⊎_elim, ℕ, zero, suc, ◌+◌, ◌*◌, ◌-◌, ◌<◌, ◌≤◌, List, [], ◌∷◌, length, take, drop, refl, sym, ◌∙◌, ap, arith}
+use Rattle.dd_rig.specs.Device.{overwrite}
+
+front_kept : (n at : ℕ) (bytes old : List ℕ) → n ≤ at → take n (overwrite at bytes old) ≡ take n old
+front_kept zero at bytes old h = refl
+front_kept (suc n) zero bytes old h = absurd (omega arith)
+front_kept (suc n) (suc at) bytes [] h = refl
+front_kept (suc n) (suc at) bytes (x ∷ old) h = ap (λ (l : List ℕ). x ∷ l) (front_kept n at bytes old (omega arith))
+
+-- in front of what is written
+pub part_before : (p n at : ℕ) (bytes old : List ℕ) → p + n ≤ at → take n (drop p (overwrite at bytes old)) ≡ take n (drop p old)
+part_before zero n at bytes old h = front_kept n at bytes old (omega arith)
+part_before (suc p) n zero bytes old h = absurd (omega arith)
+part_before (suc p) n (suc at) bytes [] h = refl
+part_before (suc p) n (suc at) bytes (x ∷ old) h = part_before p n at bytes old (omega arith)
+
+-- behind it
+pub part_behind : (p at : ℕ) (bytes old : List ℕ) → at + length bytes ≤ p → drop p (overwrite at bytes old) ≡ drop p old
+part_behind p zero bytes [] h = refl
+part_behind p (suc at) bytes [] h = refl
+part_behind p zero [] (x ∷ old) h = refl
+part_behind zero zero (b ∷ bytes) (x ∷ old) h = absurd (omega arith)
+part_behind (suc p) zero (b ∷ bytes) (x ∷ old) h = part_behind p zero bytes old (omega arith)
+part_behind zero (suc at) bytes (x ∷ old) h = absurd (omega arith)
+part_behind (suc p) (suc at) bytes (x ∷ old) h = part_behind p at bytes old (omega arith)
+
+-- what is written
+pub part_here : (at : ℕ) (bytes old : List ℕ) → at + length bytes ≤ length old → take (length bytes) (drop at (overwrite at bytes old)) ≡ bytes
+part_here zero [] old h = refl
+part_here zero (b ∷ bytes) [] h = absurd (omega arith)
+part_here zero (b ∷ bytes) (x ∷ old) h = ap (λ (l : List ℕ). b ∷ l) (part_here zero bytes old (omega arith))
+part_here (suc at) bytes [] h = absurd (omega arith)
+part_here (suc at) bytes (x ∷ old) h = part_here at bytes old (omega arith)
+
+-- slots don't overlap
+pub slot_before : (s t n : ℕ) → s < t → s * n + n ≤ t * n
+slot_before s t n h = grind arith

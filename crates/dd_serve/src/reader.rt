@@ -1,0 +1,148 @@
+// A script, read from its source in pieces and cut into lines.
+ghost use Rattle.std.specs.Prelude.{◌≡◌, ◌+◌, ◌-◌, ◌<◌, ◌≤◌, ◌≢◌, ◌↔◌, ◌++◌, ℕ, List, [], length, take, OnErr, IfOk, OnOk, IfErr, IfSome, false, true};
+ghost use Rattle.dd_rig.specs.Counts.{Rose};
+ghost use Rattle.dd_serve.specs.Reading.{Held, left, fuel, first_line, after_line, NextByte, NextLine, Burns, ScriptStops};
+
+use crate::stop::Stop;
+use dd_rig::{Failed, Source};
+use std::alloc::{AllocError, Global};
+use std::marker::Model;
+
+/// How many bytes of a script are taken at most.
+pub const SCRIPT_LIMIT: u64 = 1_099_511_627_776;
+
+/// How many bytes of a line are kept: one more than a line may have.
+pub const LINE_ROOM: usize = 8_449;
+
+/// What is taken at once.
+const PIECE: usize = 4_096;
+
+/// What was taken from a source and not yet read.
+#[derive(Drop)]
+pub struct Reader {
+    buffer: Vec<u8>,
+    from: usize,
+    until: usize,
+    taken: u64,
+    ended: bool,
+}
+
+impl Model for Reader {
+    ghost use Rattle.std.specs.Prelude.{◌≤◌, ◌≡◌, slice_range, vec_len};
+    ghost use Rattle.dd_serve.specs.Reading.{Held};
+
+    ghost Value = { Held };
+
+    ghost view = { λ r. record { bytes = slice_range r.buffer.items r.from r.until; taken = r.taken; ended = r.ended } };
+
+    ghost invariant = { λ r. (r.from ≤ r.until) × (r.until ≤ vec_len r.buffer) × (vec_len r.buffer ≡ 4096) × (r.taken ≤ 1099511627776) };
+}
+
+impl Reader {
+    pub fn new(alloc: Global) -> Result<Self, AllocError>
+        ensures { IfOk result (λ reader. reader ≡ record { bytes = []; taken = 0; ended = false }) }
+    {
+        Ok(Reader {
+            buffer: vec![in alloc; 0; PIECE]?,
+            from: 0,
+            until: 0,
+            taken: 0,
+            ended: false,
+        })
+    }
+
+    /// The next byte of the script, or None at its end.
+    pub fn next_byte<S: Source>(&mut self, source: &mut S) -> Result<Option<u8>, Stop>
+        ensures byte { S.tells → IfOk result (λ byte. NextByte byte (left self.old (S.rest source.old)) (left self.new (S.rest source.new))) }
+        ensures fuel { IfOk result (λ byte. Burns byte (fuel self.old) (fuel self.new)) }
+        ensures total { S.tells → OnOk result (self.new.taken + length (S.rest source.new) ≡ self.old.taken + length (S.rest source.old)) }
+        ensures later { S.failures source.old ≤ S.failures source.new }
+        ensures stop { IfErr result (λ stop. ScriptStops (S.tells → 1099511627776 ≤ self.old.taken + length (S.rest source.old)) stop (S.failures source.old) (S.failures source.new)) }
+    {
+        self.fill(source)?;
+        if self.from == self.until {
+            return Ok(None);
+        }
+        let byte = self.buffer[self.from];
+        self.from += 1;
+        Ok(Some(byte))
+    }
+
+    // Takes the next piece, where nothing is held and the end hasn't come.
+    fn fill<S: Source>(&mut self, source: &mut S) -> Result<(), Stop>
+        ensures same { S.tells → OnOk result (left self.new (S.rest source.new) ≡ left self.old (S.rest source.old)) }
+        ensures ended { OnOk result (self.new.bytes ≡ [] → self.new.ended ≡ true) }
+        ensures fuel { OnOk result (fuel self.new ≡ fuel self.old) }
+        ensures total { S.tells → OnOk result (self.new.taken + length (S.rest source.new) ≡ self.old.taken + length (S.rest source.old)) }
+        ensures later { S.failures source.old ≤ S.failures source.new }
+        ensures stop { IfErr result (λ stop. ScriptStops (S.tells → 1099511627776 ≤ self.old.taken + length (S.rest source.old)) stop (S.failures source.old) (S.failures source.new)) }
+    {
+        if self.from < self.until || self.ended {
+            return Ok(());
+        }
+        let room = SCRIPT_LIMIT - self.taken;
+        if room == 0 {
+            return Err(Stop::Length);
+        }
+        let Ok(count) = take_piece(source, &mut self.buffer, room) else {
+            return Err(Stop::Script);
+        };
+        self.from = 0;
+        self.until = count;
+        self.taken += count as u64;
+        self.ended = count == 0;
+        Ok(())
+    }
+
+    /// Puts the next line without its end into the slice, as far as it fits, and answers how much of it is there.
+    /// None at the end of the script.
+    pub fn next_line<S: Source>(
+        &mut self,
+        source: &mut S,
+        into: &mut [u8],
+    ) -> Result<Option<usize>, Stop>
+        requires { length into.old ≡ 8449 }
+        ensures line { S.tells → IfOk result (λ size. NextLine size into.new (left self.old (S.rest source.old)) (left self.new (S.rest source.new))) }
+        ensures fits { IfOk result (λ size. IfSome size (λ n. n ≤ 8449)) }
+        ensures fuel { IfOk result (λ size. Burns size (fuel self.old) (fuel self.new)) }
+        ensures total { S.tells → OnOk result (self.new.taken + length (S.rest source.new) ≡ self.old.taken + length (S.rest source.old)) }
+        ensures later { S.failures source.old ≤ S.failures source.new }
+        ensures stop { IfErr result (λ stop. ScriptStops (S.tells → 1099511627776 ≤ self.old.taken + length (S.rest source.old)) stop (S.failures source.old) (S.failures source.new)) }
+    {
+        let mut size = 0;
+        let mut begun = false;
+        loop {
+            let byte = match self.next_byte(source)? {
+                None if begun => return Ok(Some(size)),
+                None => return Ok(None),
+                Some(byte) => byte,
+            };
+            if byte == b'\n' {
+                return Ok(Some(size));
+            }
+            begun = true;
+            if size < LINE_ROOM {
+                into[size] = byte;
+                size += 1;
+            }
+        }
+    }
+}
+
+// Takes at most so many bytes to the beginning of the slice.
+fn take_piece<S: Source>(source: &mut S, into: &mut [u8], most: u64) -> Result<usize, Failed>
+    requires some { 0 < most }
+    requires room { length into.old ≢ 0 }
+    ensures fits { IfOk result (λ count. (count ≤ length into.old) × (count ≤ most)) }
+    ensures bytes { S.tells → IfOk result (λ count. S.rest source.old ≡ take count into.new ++ S.rest source.new) }
+    ensures end { S.tells → IfOk result (λ count. (count ≡ 0) ↔ (S.rest source.old ≡ [])) }
+    ensures later { S.failures source.old ≤ S.failures source.new }
+    ensures cause { OnErr result (Rose (S.failures source.old) (S.failures source.new)) }
+{
+    let size = if most < into.len() as u64 {
+        most as usize
+    } else {
+        into.len()
+    };
+    source.take(&mut into[..size])
+}
