@@ -1,3 +1,5 @@
+pub mod Bytes
+pub mod Geometry
 pub mod Lcg
 pub mod Print
 pub mod Text

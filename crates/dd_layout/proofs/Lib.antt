@@ -1,0 +1,2 @@
+pub mod Superblocks
+mod Worked

@@ -1,0 +1,5 @@
+pub mod Faults
+pub mod Listed
+pub mod Replay
+pub mod Spelling
+pub mod Table
