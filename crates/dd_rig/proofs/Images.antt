@@ -1,10 +1,10 @@
 -- Images before a write, within it and after it.
-use Rattle.std.proofs.Common.{◌≡◌, ◌⊎◌, inl, inr, ⊎_elim, ℕ, ◌+◌, ◌-◌, ◌<◌, ◌≤◌, List, [], ◌∷◌, length, get_or, take, drop, refl, sym, ◌∙◌, ap, arith, get_or-drop, get_or-take, length-take, length-drop, slice_range}
+use Rattle.std.proofs.Common.{◌≡◌, ◌⊎◌, inl, inr, ⊎_elim, ℕ, ◌+◌, ◌-◌, ◌<◌, ◌≤◌, List, length, get_or, take, drop, ◌∙◌, ap, arith, get_or-drop, get_or-take, length-take, length-drop}
 use Rattle.std.proofs.lemmas.Bool.{cases_lt}
 use Rattle.dd_rig.specs.declared.device.Dev.{Dev}
 use Rattle.dd_rig.specs.declared.device.Dev.TheVariants.{Flash, Disk}
 use Rattle.dd_rig.specs.World.{World, Outcome, MayLeave, WithinWrite, on_device}
-use Rattle.dd_rig.specs.Device.{Device, IsOutside, IsImage, overwrite, add_range, write_bytes, make_stable}
+use Rattle.dd_rig.specs.Device.{Device, IsImage, overwrite, add_range, write_bytes, make_stable}
 use Rattle.dd_rig.proofs.Overwrite.{length-overwrite, overwrite_outside, overwrite_inside}
 
 -- An image within a write is an image from before it in all but the range.

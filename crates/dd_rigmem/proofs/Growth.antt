@@ -1,25 +1,26 @@
 -- One event more.
-use Rattle.std.proofs.Common.{◌≡◌, ◌⊎◌, inl, inr, ⊎_elim, ℕ, zero, suc, ◌≤◌, ◌+◌, List, [], ◌∷◌, ◌++◌, length, take, Vec, refl, sym, ◌∙◌, ap, subst, arith, length-append}
-use Rattle.std.specs.declared.alloc.Global.{Global}
+use Rattle.std.proofs.Common.{◌≡◌, ◌⊎◌, inl, inr, ⊎_elim, ℕ, zero, suc, ◌≤◌, List, [], ◌∷◌, ◌++◌, length, Result, Ok, Err, refl, sym, ap, subst, arith, length-append}
+use Rattle.std.proofs.lemmas.List.{append-nil}
 use Rattle.dd_rig.specs.declared.device.Dev.{Dev}
 use Rattle.dd_rig.specs.declared.device.Dev.TheVariants.{Flash, Disk}
-use Rattle.dd_rig.specs.Device.{overwrite, write_bytes, make_stable}
-use Rattle.dd_rig.specs.World.{World, Outcome, MayLeave, WithinWrite, WithinEmit, on_device, say}
-use Rattle.dd_rig.specs.Clock.{Clock, Elapses, AddsNone, MovesOn}
+use Rattle.dd_rig.specs.Device.{Device}
+use Rattle.dd_rig.specs.World.{World, Outcome, MayLeave, WithinWrite, WithinEmit, device_of, on_device, say}
+use Rattle.dd_rig.specs.Clock.{Elapses, MovesOn}
+use Rattle.std.specs.Prelude.{OnOk, OnErr}
 use Rattle.dd_rig.proofs.Images.{after_is_within, after_sync_is_before}
-use Rattle.dd_rig.proofs.Moments.{widens}
-use Rattle.dd_rigmem.specs.declared.event.Emission.{Emission}
+use Rattle.dd_rig.proofs.Moments.{starts, widens}
 use Rattle.dd_rigmem.specs.declared.event.Event.{Event}
 use Rattle.dd_rigmem.specs.declared.event.Event.TheVariants.{Wrote, Synced, Emitted}
-use Rattle.dd_rigmem.specs.declared.event.Writing.{Writing}
-use Rattle.dd_rigmem.specs.declared.past.Past.{Past}
-use Rattle.dd_rigmem.specs.Bytes.{Bytes, on_bytes}
-use Rattle.dd_rigmem.specs.History.{after_event, after_events, WithinEvent, LeftSince, clock_of, clock_of_past, start_of, world_of, IsShown}
+use Rattle.dd_rigmem.specs.Records.{WriteRecord, EmitRecord}
+use Rattle.dd_rigmem.specs.History.{History, grown, start_of, after_event, after_events, WithinEvent, LeftSince, clock_of, world_of, Writes, Syncs, Emits}
 use Rattle.dd_rigmem.specs.Laws.{counts_now, shows_images}
 
-pub after_events-push : (events : List Event) (event : Event) (world : World) → after_events (events ++ event ∷ []) world ≡ after_event event (after_events events world)
+after_events-push : (events : List Event) (event : Event) (world : World) → after_events (events ++ event ∷ []) world ≡ after_event event (after_events events world)
 after_events-push [] event world = refl
 after_events-push (e ∷ events) event world = after_events-push events event (after_event e world)
+
+pub world_grown : (event : Event) (history : History) → world_of (grown event history) ≡ after_event event (world_of history)
+world_grown event history = after_events-push history.events event (start_of history.start)
 
 keeps : (events : List Event) (event : Event) (world : World) (t : ℕ) (o : Outcome) → t ≤ length events → LeftSince events world t o → LeftSince (events ++ event ∷ []) world t o
 keeps [] event world zero o le left = inl left
@@ -42,13 +43,6 @@ adds_only (e ∷ events) event world zero o le (inr (inl within)) = inl (inr (in
 adds_only (e ∷ events) event world zero o le (inr (inr left)) = ⊎_elim (λ old. inl (inr (inr old))) (λ new. inr new) (adds_only events event (after_event e world) zero o (omega arith) left)
 adds_only (e ∷ events) event world (suc t) o le left = adds_only events event (after_event e world) t o (omega arith) left
 
-pub elapses_event : (events : List Event) (event : Event) (world : World) → Elapses (clock_of events world) (clock_of (events ++ event ∷ []) world) (Within event (after_events events world))
-elapses_event events event world = record {
-  later = omega (arith, length-append events (event ∷ []));
-  keeps = λ t o le left. keeps events event world t o le left;
-  adds_only = λ t o le left. adds_only events event world t o le left;
-}
-
 -- a crash within an event is one since each moment before it
 within_counts : (events : List Event) (event : Event) (world : World) (t : ℕ) (o : Outcome) → t ≤ length events → WithinEvent event (after_events events world) o → LeftSince (events ++ event ∷ []) world t o
 within_counts [] event world zero o le within = inr (inl within)
@@ -56,70 +50,80 @@ within_counts [] event world (suc t) o le within = absurd (omega arith)
 within_counts (e ∷ events) event world zero o le within = inr (inr (within_counts events event (after_event e world) zero o (omega arith) within))
 within_counts (e ∷ events) event world (suc t) o le within = within_counts events event (after_event e world) t o (omega arith) within
 
-module _ (past : Past) (events : Vec Event Global) (event : Event) (pushed : events.items ≡ past.events.items ++ event ∷ []) where
-  abbrev pub grown : Past
-  grown = record { start = past.start; events = events }
+module _ (event : Event) (history : History) where
+  time_grown : Elapses (clock_of history) (clock_of (grown event history)) (Within event (world_of history))
+  time_grown = record {
+    later = omega (arith, length-append history.events (event ∷ []));
+    keeps = λ t o le left. keeps history.events event (start_of history.start) t o le left;
+    adds_only = λ t o le left. adds_only history.events event (start_of history.start) t o le left;
+  }
 
-  pub world_grown : world_of grown ≡ after_event event (world_of past)
-  world_grown = ap (λ (l : List Event). after_events l (start_of past)) pushed ∙ after_events-push past.events.items event (start_of past)
-
-  pub clock_grown : Elapses (clock_of_past past) (clock_of_past grown) (Within event (world_of past))
-  clock_grown = subst (λ (l : List Event). Elapses (clock_of_past past) (clock_of l (start_of past)) (Within event (world_of past))) (sym pushed) (elapses_event past.events.items event (start_of past))
-
-  pub within_grown : (t : ℕ) (o : Outcome) → t ≤ length past.events.items → WithinEvent event (world_of past) o → LeftSince events.items (start_of past) t o
-  within_grown t o le within = subst (λ (l : List Event). LeftSince l (start_of past) t o) (sym pushed) (within_counts past.events.items event (start_of past) t o le within)
-
-  -- a record moves the clock on
-  pub moved_grown : MovesOn (world_of past) (world_of grown) (clock_of_past past) (clock_of_past grown)
-  moved_grown = inr (omega (arith, ap length pushed, length-append past.events.items (event ∷ [])))
+  moves_grown : MovesOn (world_of history) (world_of (grown event history)) (clock_of history) (clock_of (grown event history))
+  moves_grown = inr (omega (arith, length-append history.events (event ∷ [])))
 
 -- a write, recorded
-module _ (past : Past) (events : Vec Event Global) (w : Writing) (bytes : List ℕ) (same : w.bytes.items ≡ bytes) (pushed : events.items ≡ past.events.items ++ Wrote w ∷ []) where
-  pub world_written : world_of (grown past events (Wrote w) pushed) ≡ on_device w.dev (write_bytes w.at bytes) (world_of past)
-  world_written = world_grown past events (Wrote w) pushed ∙ ap (λ (b : List ℕ). on_device w.dev (write_bytes w.at b) (world_of past)) same
-
-  pub clock_written : Elapses (clock_of_past past) (clock_of_past (grown past events (Wrote w) pushed)) (WithinWrite w.dev w.at (length bytes) (world_of past))
-  clock_written = subst (λ (b : List ℕ). Elapses (clock_of_past past) (clock_of_past (grown past events (Wrote w) pushed)) (WithinWrite w.dev w.at (length b) (world_of past))) same
-      (widens (clock_grown past events (Wrote w) pushed) (λ o within. ⊎_elim (λ none. absurd none) (after_is_within w.dev w.at w.bytes.items (world_of past) o) within))
-
--- what a write shows
-pub shown_written : (dev : Dev) (at : ℕ) (bytes : List ℕ) (past later : Past) (shown after : Bytes) → world_of later ≡ on_device dev (write_bytes at bytes) (world_of past) → after ≡ on_bytes dev (overwrite at bytes) shown → IsShown past shown → IsShown later after
-shown_written Flash at bytes past later shown after world is so_far = record {
-  flash = ap (λ (b : Bytes). b.flash) is ∙ ap (overwrite at bytes) so_far.flash ∙ sym (ap (λ (w : World). w.flash.shown) world);
-  disk = ap (λ (b : Bytes). b.disk) is ∙ so_far.disk ∙ sym (ap (λ (w : World). w.disk.shown) world);
-}
-shown_written Disk at bytes past later shown after world is so_far = record {
-  flash = ap (λ (b : Bytes). b.flash) is ∙ so_far.flash ∙ sym (ap (λ (w : World). w.flash.shown) world);
-  disk = ap (λ (b : Bytes). b.disk) is ∙ ap (overwrite at bytes) so_far.disk ∙ sym (ap (λ (w : World). w.disk.shown) world);
+pub wrote : (w : WriteRecord) (history : History) → Writes w.dev w.at (length w.bytes) history (grown (Wrote w) history)
+wrote w history = record {
+  any = inr (w.bytes, refl, world_grown (Wrote w) history);
+  time = widens (time_grown (Wrote w) history) (λ o within. ⊎_elim (λ none. absurd none) (after_is_within w.dev w.at w.bytes (world_of history) o) within);
+  moves = moves_grown (Wrote w) history;
 }
 
--- a sync and an emit show what was shown
-pub shown_synced : (dev : Dev) (past later : Past) (shown : Bytes) → world_of later ≡ on_device dev make_stable (world_of past) → IsShown past shown → IsShown later shown
-shown_synced Flash past later shown world so_far = record { flash = so_far.flash ∙ sym (ap (λ (w : World). w.flash.shown) world); disk = so_far.disk ∙ sym (ap (λ (w : World). w.disk.shown) world) }
-shown_synced Disk past later shown world so_far = record { flash = so_far.flash ∙ sym (ap (λ (w : World). w.flash.shown) world); disk = so_far.disk ∙ sym (ap (λ (w : World). w.disk.shown) world) }
-
-pub shown_said : (piece : List ℕ) (past later : Past) (shown : Bytes) → world_of later ≡ say piece (world_of past) → IsShown past shown → IsShown later shown
-shown_said piece past later shown world so_far = record { flash = so_far.flash ∙ sym (ap (λ (w : World). w.flash.shown) world); disk = so_far.disk ∙ sym (ap (λ (w : World). w.disk.shown) world) }
+pub wrote_none : (dev : Dev) (at size : ℕ) (history : History) → Writes dev at size history history
+wrote_none dev at size history = record {
+  any = inl refl;
+  time = starts (clock_of history) (WithinWrite dev at size (world_of history));
+  moves = inl (refl, starts (clock_of history) (λ o. ⊥));
+}
 
 -- a sync, recorded, adds no outcome
-pub clock_synced : (past : Past) (events : Vec Event Global) (dev : Dev) (pushed : events.items ≡ past.events.items ++ Synced dev ∷ []) → AddsNone (clock_of_past past) (clock_of_past (grown past events (Synced dev) pushed))
-clock_synced past events dev pushed =
-    let call = clock_grown past events (Synced dev) pushed in
-    let images = shows_images past in
+pub synced : (dev : Dev) (history : History) → Syncs dev history (grown (Synced dev) history)
+synced dev history =
+    let call = time_grown (Synced dev) history in
+    let images = shows_images history in
     record {
-      later = call.later;
-      keeps = call.keeps;
-      adds_only = λ t o le left. inl (⊎_elim (λ old. old) (λ within. counts_now past.events.items (start_of past) t o le (⊎_elim (λ none. absurd none) (after_sync_is_before dev (world_of past) o images.flash images.disk) within)) (call.adds_only t o le left));
+      any = inr (world_grown (Synced dev) history);
+      time = record {
+        later = call.later;
+        keeps = call.keeps;
+        adds_only = λ t o le left. inl (⊎_elim (λ old. old) (λ within. counts_now history.events (start_of history.start) t o le (⊎_elim (λ none. absurd none) (after_sync_is_before dev (world_of history) o images.flash images.disk) within)) (call.adds_only t o le left));
+      };
+      moves = moves_grown (Synced dev) history;
     }
 
+pub synced_none : (dev : Dev) (history : History) → Syncs dev history history
+synced_none dev history = record {
+  any = inl refl;
+  time = starts (clock_of history) (λ o. ⊥);
+  moves = inl (refl, starts (clock_of history) (λ o. ⊥));
+}
+
 -- an emit, recorded
-module _ (past : Past) (events : Vec Event Global) (e : Emission) (piece : List ℕ) (same : e.piece.items ≡ piece) (pushed : events.items ≡ past.events.items ++ Emitted e ∷ []) where
-  pub world_said : world_of (grown past events (Emitted e) pushed) ≡ say (take e.count piece) (world_of past)
-  world_said = world_grown past events (Emitted e) pushed ∙ ap (λ (p : List ℕ). say (take e.count p) (world_of past)) same
+pub emitted : (e : EmitRecord) (history : History) → Emits e.piece history (grown (Emitted e) history)
+emitted e history = record {
+  any = (e.count, world_grown (Emitted e) history);
+  time = widens (time_grown (Emitted e) history) (λ o within. ⊎_elim (λ during. during) (λ after. (e.count, after)) within);
+  moves = moves_grown (Emitted e) history;
+  within = inr (λ t o le within. within_counts history.events (Emitted e) (start_of history.start) t o le within);
+}
 
-  pub clock_said : Elapses (clock_of_past past) (clock_of_past (grown past events (Emitted e) pushed)) (WithinEmit piece (world_of past))
-  clock_said = subst (λ (p : List ℕ). Elapses (clock_of_past past) (clock_of_past (grown past events (Emitted e) pushed)) (WithinEmit p (world_of past))) same
-      (widens (clock_grown past events (Emitted e) pushed) (λ o within. ⊎_elim (λ during. during) (λ after. (e.count, after)) within))
+-- to say nothing changes nothing
+pub say_nothing : (world : World) → say [] world ≡ world
+say_nothing world = ap (λ (said : List ℕ). record world { said = said }) (append-nil world.said)
 
-  pub counts_said : (t : ℕ) (o : Outcome) → t ≤ length past.events.items → WithinEmit piece (world_of past) o → LeftSince events.items (start_of past) t o
-  counts_said t o le within = within_grown past events (Emitted e) pushed t o le (subst (λ (p : List ℕ). WithinEmit p (world_of past) o) (sym same) within)
+pub emitted_none : (piece : List ℕ) (history : History) → Emits piece history history
+emitted_none piece history = record {
+  any = (0, sym (say_nothing (world_of history)));
+  time = starts (clock_of history) (WithinEmit piece (world_of history));
+  moves = inl (refl, starts (clock_of history) (λ o. ⊥));
+  within = inl refl;
+}
+
+-- a call that ends in one of two ways
+pub either_way : {T E : Type 0} (result : Result T E) (P : History → Type 0) (old done new : History) → OnOk result (new ≡ done) → OnErr result (new ≡ old) → P done → P old → P new
+either_way (Ok x) P old done new ok err after before = subst P (sym ok) after
+either_way (Err e) P old done new ok err after before = subst P (sym err) before
+
+pub on_device_same : (dev : Dev) (f h : Device → Device) (world : World) → f (device_of dev world) ≡ h (device_of dev world) → on_device dev f world ≡ on_device dev h world
+on_device_same Flash f h world same = ap (λ (d : Device). record world { flash = d }) same
+on_device_same Disk f h world same = ap (λ (d : Device). record world { disk = d }) same

@@ -1,10 +1,10 @@
 -- Picked bytes, one by one, and that they are an image.
-use Rattle.std.proofs.Common.{◌≡◌, ◌⊎◌, inl, inr, ⊎_elim, ℕ, zero, suc, ◌+◌, ◌-◌, ◌^◌, ◌<◌, ◌≤◌, List, [], ◌∷◌, ◌++◌, length, get_or, take, drop, Bool, true, false, ◌||◌, ◌&&◌, nat_le, nat_lt, if◌then◌else◌, refl, sym, ◌∙◌, ap, subst, arith, append_assoc}
+use Rattle.std.proofs.Common.{◌≡◌, ◌⊎◌, inl, inr, ℕ, zero, suc, ◌+◌, ◌-◌, ◌<◌, ◌≤◌, List, [], ◌∷◌, ◌++◌, length, get_or, take, drop, Bool, true, false, ◌||◌, ◌&&◌, nat_le, nat_lt, if◌then◌else◌, refl, sym, ◌∙◌, ap, subst, arith, append_assoc}
 use Rattle.std.proofs.lemmas.List.{drop_more, append-nil}
 use Rattle.std.proofs.lemmas.Bool.Decides.{nat_tests}
 use Rattle.std.proofs.Math.Seq.{take-add}
-use Rattle.std.specs.Prelude.{slice_get, Option, Some, None}
-use Rattle.dd_block.specs.Lcg.{next_state, draw}
+use Rattle.std.specs.Prelude.{slice_get, Some}
+use Rattle.dd_block.specs.Lcg.{draw}
 use Rattle.dd_rig.specs.Device.{Device, IsImage, IsOutside}
 use Rattle.dd_rig.specs.World.{World, Outcome, MayLeave, say}
 use Rattle.dd_rigmem.specs.declared.event.Event.{Event}
@@ -95,7 +95,7 @@ last_left (Emitted e) world o n left = inr (inl (
   record {
     flash = left.flash;
     disk = left.disk;
-    out = left.out ∙ append_assoc world.said (take e.count e.piece.items) (take n (drop e.count e.piece.items)) ∙ ap (λ (l : List ℕ). world.said ++ l) (sym (take-add e.count n e.piece.items));
+    out = left.out ∙ append_assoc world.said (take e.count e.piece) (take n (drop e.count e.piece)) ∙ ap (λ (l : List ℕ). world.said ++ l) (sym (take-add e.count n e.piece));
   },
 ))
 
@@ -104,4 +104,12 @@ pub crash_left : (emitting : Bool) (events : List Event) (world : World) (o : Ou
 crash_left false events world o n left = counts_now events world (length events) o (omega arith) (said_nothing _ o (subst (λ (l : List ℕ). MayLeave (say l (after_events events world)) o) (take_none n) left))
 crash_left true [] world o n left = said_nothing _ o (subst (λ (l : List ℕ). MayLeave (say l world) o) (take_none n) left)
 crash_left true (event ∷ []) world o n left = last_left event world o n left
-crash_left true (event ∷ next ∷ events) world o n left = crash_left true (next ∷ events) (after_event event world) o n left
+crash_left true (event ∷ next ∷ events) world o n left =
+    let next_moment : suc (suc (length events) - 1) ≡ suc (suc (length events)) - 1 = omega arith in
+    subst (λ (t : ℕ). LeftSince (event ∷ next ∷ events) world t o) next_moment (crash_left true (next ∷ events) (after_event event world) o n left)
+
+-- the event that was put last
+pub last_unfinished_new : (event : Event) (events : List Event) → unfinished_of true (events ++ event ∷ []) ≡ unfinished_in (Some event)
+last_unfinished_new event [] = refl
+last_unfinished_new event (e ∷ []) = refl
+last_unfinished_new event (e ∷ next ∷ events) = last_unfinished_new event (next ∷ events)

@@ -1,12 +1,16 @@
 -- Which outcome of a crash a number picks.
-use Rattle.std.specs.Prelude.{◌≡◌, ◌^◌, ◌<◌, ◌≤◌, ◌+◌, ◌-◌, ◌/◌, ◌%◌, ℕ, Bool, true, false, ◌==◌, ◌&&◌, nat_le, nat_lt, if◌then◌else◌, List, [], ◌∷◌, ◌++◌, length, take}
+use Rattle.std.specs.Prelude.{◌+◌, ◌-◌, ◌/◌, ◌%◌, ℕ, Bool, ◌==◌, ◌&&◌, nat_le, nat_lt, if◌then◌else◌, List, [], ◌∷◌, ◌++◌, length, take}
 use Rattle.dd_rig.specs.World.{World, Outcome}
 use Rattle.std.specs.List.{list_any}
 use Rattle.dd_block.specs.Lcg.{next_state, draw}
 
 -- a range has this place
+abbrev pub is_in : ℕ × ℕ → ℕ → Bool
+is_in range place = nat_le range.0 place && nat_lt (place - range.0) range.1
+
+-- one of the ranges has it
 abbrev pub is_free : List (ℕ × ℕ) → ℕ → Bool
-is_free ranges place = list_any (λ range. nat_le range.0 place && nat_lt (place - range.0) range.1) ranges
+is_free ranges place = list_any (λ range. is_in range place) ranges
 
 -- A free byte: the stable one, the shown one, 1, or one of three by a draw.
 abbrev pub picked_byte : ℕ → ℕ → ℕ → ℕ → ℕ

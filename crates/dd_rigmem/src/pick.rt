@@ -20,10 +20,10 @@ pub fn pick_bytes(
 {
     let stable = device.stable();
     let shown = device.shown();
+    let free = device.free(alloc)?;
     let mut bytes = Vec::new(alloc);
     for place in 0..stable.len() {
-        let is_free = is_in_ranges(device.ranges(), place as u64);
-        bytes.push(pick_next(pick, is_free, stable[place], shown[place], numbers))?;
+        bytes.push(pick_next(pick, free[place], stable[place], shown[place], numbers))?;
     }
     Ok(bytes)
 }
@@ -38,14 +38,6 @@ fn pick_next(pick: u64, is_free: bool, stable: u8, shown: u8, numbers: &mut Lcg)
     } else {
         stable
     }
-}
-
-fn is_in_ranges(ranges: &[(u64, u64)], place: u64) -> bool
-    ensures { result ≡ is_free ranges.now place }
-{
-    ranges
-        .iter()
-        .any(|range| range.0 <= place && place - range.0 < range.1)
 }
 
 fn pick_byte(pick: u64, drawn: u32, stable: u8, shown: u8) -> u8

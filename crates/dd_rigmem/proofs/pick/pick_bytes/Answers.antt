@@ -1,4 +1,5 @@
-use Rattle.std.proofs.Common.{◌≡◌, ◌+◌, ◌∙◌, ap, sym, subst, arith, Bool, if◌then◌else◌, get_or, List, ℕ}
+use Rattle.std.proofs.Common.{◌≡◌, ◌∙◌, ap, arith, ◌<◌, length, false, Bool, if◌then◌else◌, get_or}
+use Rattle.std.proofs.lemmas.List.{get_or_default}
 use Rattle.dd_block.specs.Lcg.{next_state, draw}
 use Rattle.dd_rigmem.specs.Pick.{is_free, picked_byte}
 use Rattle.dd_rigmem.proofs.Picks.{bytes_step, rest_step}
@@ -11,7 +12,9 @@ loop-place-preserved c =
     let stable = c.stable-stable.result.now in
     let shown = c.shown-shown.result.now in
     let x = c.loop-place.numbers.state in
-    let free : c.is_in_ranges-is_free.result ≡ is_free ranges place = c.is_in_ranges-is_free.ensures ∙ ap (λ (r : List (ℕ × ℕ)). is_free r place) c.ranges-in-loop-place.ensures in
+    let low : place < length c.args.device.now.stable = omega (arith, ap length c.loop-place.invariant.stable) in
+    let free : c.index.result.now ≡ is_free ranges place =
+    c.index.ensures ∙ get_or_default c.in_ok-free.free.items place c.index.result.now false (omega (arith, low, c.in_ok-free.ensures.long)) ∙ c.in_ok-free.ensures.each place low in
     let moved = c.pick_next.ensures.number ∙ ap (λ (b : Bool). if b then next_state x else x) free in
     record {
       bytes = bytes_step c.args.pick ranges place x c.pick_next.new.numbers.state c.pick_next.result c.loop-place.bytes.items c.push.new.self.items stable shown _

@@ -1,7 +1,7 @@
-use Rattle.std.proofs.Common.{◌≡◌, ◌∙◌, ap, subst, sym, ℕ, List, ◌++◌, length, take, arith}
+use Rattle.std.proofs.Common.{◌∙◌, ap, subst, sym, ℕ, List, ◌++◌, length, take}
 use Rattle.dd_rig.specs.Device.{IsImage}
 use Rattle.dd_block.specs.Lcg.{draw}
-use Rattle.dd_rigmem.specs.Pick.{picked, picked_count}
+use Rattle.dd_rigmem.specs.Pick.{picked_count}
 use Rattle.dd_rigmem.proofs.Picks.{picked_image}
 use Rattle.dd_rigmem.proofs.rig_mem.crash_of.Goals as goal
 
