@@ -11,12 +11,18 @@ const REPLAY: [&str; 4] = ["replay", "16", "3", "2"];
 fn setting<'a>(disk: &'a [u8], script: &'a [u8]) -> Setting<'a>
     ensures { result.piece ≡ 7 }
 {
+    pieces(disk, script, 7)
+}
+
+fn pieces<'a>(disk: &'a [u8], script: &'a [u8], piece: usize) -> Setting<'a>
+    ensures { result.piece ≡ piece }
+{
     Setting {
         words: &REPLAY,
         flash: &WORKED_FLASH,
         disk,
         script,
-        piece: 7,
+        piece,
         fails: &[],
         failed_takes: &[],
     }
@@ -24,16 +30,12 @@ fn setting<'a>(disk: &'a [u8], script: &'a [u8]) -> Setting<'a>
 
 #[test]
 fn hits_joins_and_misses(rt: HostRuntime) -> Result<(), Stop> {
-    let rows: [(&[u8], &[u8]); 4] = [
+    let rows: [(&[u8], &[u8]); 3] = [
         (b"", b"bye 0\n"),
         (b"r 0\nr 0\nr 2\n", b"miss 01\nhit 01\njoin 01\nbye 3\n"),
         (
             b"r 0\nr 0\nr 2\nr 1\nr 3\nr 2",
             b"miss 01\nhit 01\njoin 01\nmiss 02\nmiss 03 out 0 drop 0100000000000000\nmiss 01 drop 0200000000000000\nbye 6\n",
-        ),
-        (
-            b"\nr 9\nr 123456789\nl\n",
-            b"bad word\nbad word\nbad word\nbad word\nbye 0\n",
         ),
     ];
     let disk = worked_disk();
@@ -43,6 +45,61 @@ fn hits_joins_and_misses(rt: HostRuntime) -> Result<(), Stop> {
         assert_eq!(rt; ran.status, 0);
         assert_eq!(rt; ran.left.disk.as_slice(), disk.as_slice());
         assert!(rt; ran.left.flash.iter().take(64).all(|b| *b == 0));
+    }
+    Ok(())
+}
+
+#[test]
+fn lines_are_read_as_the_script_language_has_them(rt: HostRuntime) -> Result<(), Stop> {
+    let rows: [(&[u8], &[u8]); 4] = [
+        (
+            b"# trace\r\n\r\n r\t0 \r\nr 00",
+            b"miss 01\nhit 01\nbye 2\n",
+        ),
+        (
+            b"r 8\nr\nw 1 ab\nq 1\nq\nr 0\n",
+            b"bad address\nbad address\nbad word\nbad rest\nbye 0\n",
+        ),
+        (
+            b"\nr 9\nr 123456789\nl\n",
+            b"bad address\nbad address\nbad word\nbye 0\n",
+        ),
+        (
+            b"r +1\nr 1 1\nR 1\n\t# r 1\nr 4294967296\nr 000000000001\n",
+            b"bad address\nbad rest\nbad word\nbad address\nmiss 02\nbye 1\n",
+        ),
+    ];
+    let disk = worked_disk();
+    for (script, want) in rows {
+        for piece in [1, 2, 4096] {
+            let ran = run(rt.alloc(), &pieces(&disk, script, piece))?;
+            assert_eq!(rt; ran.left.out.as_slice(), want);
+            assert_eq!(rt; ran.status, 0);
+        }
+    }
+    Ok(())
+}
+
+// Lines of 8,448 bytes, of one more and of two more, and long comments.
+#[test]
+fn long_lines_are_no_commands(rt: HostRuntime) -> Result<(), Stop> {
+    let alloc = rt.alloc();
+    let disk = worked_disk();
+    let rows: [(u8, usize, &[u8]); 5] = [
+        (b'z', 8448, b"bad word\nhit 01\nbye 2\n"),
+        (b'z', 8449, b"bad long\nhit 01\nbye 2\n"),
+        (b'z', 20000, b"bad long\nhit 01\nbye 2\n"),
+        (b' ', 8449, b"bad long\nhit 01\nbye 2\n"),
+        (b'#', 20000, b"hit 01\nbye 2\n"),
+    ];
+    for (byte, size, want) in rows {
+        let mut script = vec![in alloc; byte; size]?;
+        script.extend_from_slice(b"\nr 0\n")?;
+        let mut whole = Vec::from_slice(alloc, b"r 0\n")?;
+        whole.extend_from_slice(&script)?;
+        let ran = run(alloc, &setting(&disk, &whole))?;
+        assert_eq!(rt; ran.left.out.strip_prefix(b"miss 01\n"), Some(want));
+        assert_eq!(rt; ran.status, 0);
     }
     Ok(())
 }
@@ -106,19 +163,53 @@ fn other_words_are_refused(rt: HostRuntime) -> Result<(), Stop> {
     Ok(())
 }
 
+// A failed read costs one line, and nothing else.
 #[test]
-fn failed_calls_have_their_status(rt: HostRuntime) -> Result<(), Stop> {
-    let rows: [(Call, u8, &[u8]); 3] = [
-        (Call::Write(Dev::Flash), 7, b"stopped flash\n"),
-        (Call::Read(Dev::Disk), 7, b"stopped disk\n"),
-        (Call::Emit, 6, b"miss"),
+fn failed_reads_are_answered(rt: HostRuntime) -> Result<(), Stop> {
+    let rows: [(Call, &[u8], &[u8]); 3] = [
+        (
+            Call::Read(Dev::Disk),
+            b"r 0\nr 0\n",
+            b"fault disk\nmiss 01\nbye 1\n",
+        ),
+        (
+            Call::Read(Dev::Flash),
+            b"r 0\nr 0\nr 0\n",
+            b"miss 01\nfault flash\nhit 01\nbye 2\n",
+        ),
+        (
+            Call::Read(Dev::Flash),
+            b"r 0\nr 2\nr 2\n",
+            b"miss 01\nfault flash\njoin 01\nbye 2\n",
+        ),
     ];
     let disk = worked_disk();
-    for (call, status, want) in rows {
+    for (call, script, want) in rows {
         let fails = [Fail { call, number: 1 }];
         let failing = Setting {
             fails: &fails,
-            ..setting(&disk, b"r 0\n")
+            ..setting(&disk, script)
+        };
+        let ran = run(rt.alloc(), &failing)?;
+        assert_eq!(rt; ran.left.out.as_slice(), want);
+        assert_eq!(rt; ran.status, 1);
+    }
+    Ok(())
+}
+
+#[test]
+fn other_failed_calls_stop(rt: HostRuntime) -> Result<(), Stop> {
+    let rows: [(Call, u8, &[u8], &[u8]); 3] = [
+        (Call::Write(Dev::Flash), 7, b"r 0\n", b"stopped flash\n"),
+        (Call::Emit, 6, b"r 0\n", b"miss"),
+        (Call::Emit, 6, b"", b"bye"),
+    ];
+    let disk = worked_disk();
+    for (call, status, script, want) in rows {
+        let fails = [Fail { call, number: 1 }];
+        let failing = Setting {
+            fails: &fails,
+            ..setting(&disk, script)
         };
         let ran = run(rt.alloc(), &failing)?;
         assert_eq!(rt; ran.left.out.as_slice(), want);

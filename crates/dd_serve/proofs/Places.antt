@@ -8,12 +8,12 @@ use Rattle.dd_block.specs.declared.print.Fp.{Fp}
 use Rattle.dd_rig.specs.declared.device.Dev.TheVariants.{Flash, Disk}
 use Rattle.dd_rig.specs.Device.{write_bytes, overwrite}
 use Rattle.dd_rig.specs.World.{World, shown, on_device}
-use Rattle.dd_model.specs.declared.Kind.{Kind}
-use Rattle.dd_model.specs.declared.Kind.TheVariants.{Hit, Join, Miss}
+use Rattle.dd_model.specs.declared.kind.Kind.{Kind}
+use Rattle.dd_model.specs.declared.kind.Kind.TheVariants.{Hit, Join, Miss}
 use Rattle.dd_model.specs.State.{State, Entry, content, is_linked, is_known}
 use Rattle.dd_model.specs.Step.{read_kind}
-use Rattle.dd_serve.specs.declared.rows.BRow.{BRow}
-use Rattle.dd_serve.specs.declared.rows.ARow.{ARow}
+use Rattle.dd_record.specs.declared.row.BRow.{BRow}
+use Rattle.dd_record.specs.declared.row.ARow.{ARow}
 use Rattle.dd_serve.specs.declared.cache.Cache.{Cache}
 use Rattle.dd_serve.specs.Rows.{Listed, has_slot, linked_block}
 use Rattle.dd_serve.specs.Holds.{Located, Sound, LinkHolds, Confirms, slot_block, slot_at, block_of, array_of, state_of, sizes_of, IsSound, entry_of}

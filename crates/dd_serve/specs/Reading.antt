@@ -1,8 +1,9 @@
 -- What is left of a script.
-use Rattle.std.specs.Prelude.{◌≡◌, ◌≢◌, ◌+◌, ◌-◌, ◌<◌, ◌≤◌, ◌==◌, ℕ, Bool, List, [], ◌∷◌, ◌++◌, length, take, Option, Some, None, if◌then◌else◌}
-use Rattle.dd_rig.specs.Counts.{Rose}
-use Rattle.dd_serve.specs.declared.stop.Stop.{Stop}
-use Rattle.dd_serve.specs.declared.stop.Stop.TheVariants.{Flash, Disk, Script, Length, Output}
+use Rattle.std.specs.Prelude.{◌≡◌, ◌≢◌, ◌⊎◌, ◌+◌, ◌-◌, ◌<◌, ◌≤◌, ◌==◌, ℕ, Bool, true, false, List, [], ◌∷◌, ◌++◌, length, take, Option, Some, None, if◌then◌else◌, ⊤}
+use Rattle.dd_script.specs.declared.line.Line.{Line}
+use Rattle.dd_script.specs.declared.line.Line.TheVariants as line_is
+use Rattle.dd_script.specs.Command.{Command, read, quit, bad}
+use Rattle.dd_script.specs.Script.{is_quit}
 
 -- bytes taken and not yet read, how many were taken in all, and whether the end has come
 pub record Held : Type 0 where
@@ -23,10 +24,10 @@ abbrev pub NextByte : Option ℕ → List ℕ → List ℕ → Type 0
 NextByte None before after = (before ≡ []) × (after ≡ [])
 NextByte (Some b) before after = before ≡ b ∷ after
 
--- what was found used up some of what may be read
-abbrev pub Burns : Option ℕ → ℕ → ℕ → Type 0
-Burns None before after = after ≤ before
-Burns (Some _) before after = after < before
+-- what was found used up one of the bytes that may be read; the end is seen only where more might be
+abbrev pub ByteBurns : Option ℕ → ℕ → ℕ → Type 0
+ByteBurns None before after = (after ≡ before) × (0 < after)
+ByteBurns (Some _) before after = before ≡ after + 1
 
 -- up to the end of the first line
 abbrev pub first_line : List ℕ → List ℕ
@@ -38,15 +39,47 @@ abbrev pub after_line : List ℕ → List ℕ
 after_line [] = []
 after_line (b ∷ bytes) = if b == 10 then bytes else after_line bytes
 
+-- whether a line ends in it
+abbrev pub has_end : List ℕ → Bool
+has_end [] = false
+has_end (b ∷ bytes) = if b == 10 then true else has_end bytes
+
 -- the next line, as far as it is kept, or the end
 abbrev pub NextLine : Option ℕ → List ℕ → List ℕ → List ℕ → Type 0
 NextLine None buffer before after = (before ≡ []) × (after ≡ [])
 NextLine (Some n) buffer before after = (before ≢ []) × (take n buffer ≡ take 8449 (first_line before)) × (after ≡ after_line before)
 
--- Why reading a script stops. Long says that the script has too many bytes.
-abbrev pub ScriptStops : Type 0 → Stop → (failed_before failed_after : ℕ) → Type 0
-ScriptStops long Script failed_before failed_after = Rose failed_before failed_after
-ScriptStops long Length failed_before failed_after = long
-ScriptStops long Flash failed_before failed_after = ⊥
-ScriptStops long Disk failed_before failed_after = ⊥
-ScriptStops long Output failed_before failed_after = ⊥
+-- what was found used up some of what may be read
+abbrev pub LineBurns : Option ℕ → ℕ → ℕ → Type 0
+LineBurns None before after = (after ≤ before) × (0 < after)
+LineBurns (Some _) before after = after < before
+
+-- a line that ends with the script ends where more might be read
+abbrev pub EndsInside : List ℕ → ℕ → Type 0
+EndsInside before fuel_after = (has_end before ≡ true) ⊎ (0 < fuel_after)
+
+-- as many bytes may be read less as were read
+abbrev pub Spends : List ℕ → List ℕ → ℕ → ℕ → Type 0
+Spends before after fuel_before fuel_after = fuel_after + length before ≡ fuel_before + length after
+
+-- the command that a line tells stands in front of the others, which end with a quit
+abbrev pub fronted : Option Command → List Command → List Command
+fronted None commands = commands
+fronted (Some (read address)) commands = read address ∷ commands
+fronted (Some quit) commands = quit ∷ []
+fronted (Some (bad kind)) commands = bad kind ∷ commands
+
+-- whether a line is a quit
+abbrev pub quits : Option Command → Bool
+quits None = false
+quits (Some command) = is_quit command
+
+-- reading a line that is no quit used up some of what may be read
+abbrev pub BurnsUnlessQuit : Line → ℕ → ℕ → Type 0
+BurnsUnlessQuit line_is.Quit before after = ⊤
+BurnsUnlessQuit line before after = after < before
+
+-- a quit ends the script within its bound, and any other line leaves that to the lines behind it
+abbrev pub Bounds : Line → Type 0 → Type 0 → Type 0
+Bounds line_is.Quit before after = before
+Bounds line before after = (before → after) × (after → before)

@@ -5,28 +5,28 @@ ghost use Rattle.dd_rig.specs.declared.device.Dev.TheVariants.{Flash as FlashDev
 ghost use Rattle.dd_rig.specs.Device.{write_bytes};
 ghost use Rattle.dd_rig.specs.World.{World, shown, on_device};
 ghost use Rattle.dd_serve.specs.Holds.{Located, OnlyFlash, after_touch, Fits, IsSound, state_of, sizes_of, slot_at, slot_block, block_of, IsAmong, IsThis, Confirms};
-ghost use Rattle.dd_serve.specs.Causes.{Caused};
+ghost use Rattle.dd_serve.specs.Causes.{Faulted, LeavesWorld};
 ghost use Rattle.dd_serve.specs.Rows.{cut_of, linked_block};
-ghost use Rattle.dd_serve.specs.Told.{Tells};
+ghost use Rattle.dd_model.specs.Step.{Tells};
 ghost use Rattle.dd_model.specs.State.{content};
 ghost use Rattle.dd_model.specs.Step.{reference, read_answer};
 
 use crate::lists::Lists;
-use crate::rows::{BRow, Cut};
-use crate::stop::Stop;
 use dd_block::{Fingerprint, Fp};
-use dd_model::Kind;
+use dd_model::{Cut, Done, Kind};
+use dd_record::BRow;
 use dd_rig::{Dev, Rig};
 use std::alloc::{AllocError, Global};
 
 /// Where the slots begin on the flash.
 pub const SLOTS_AT: u64 = 64;
 
-/// What a reference answers.
+/// Why a reference failed. Where a read failed, nothing has changed.
 #[derive(Clone, Copy, Debug, PartialEq, Eq)]
-pub struct Done {
-    pub kind: Kind,
-    pub cut: Cut,
+pub enum CacheFault {
+    FlashRead,
+    DiskRead,
+    FlashWrite,
 }
 
 /// Both lists, a free slot, and how many references were made.
@@ -40,42 +40,49 @@ pub struct Cache {
 }
 
 // Reads a slot of the flash.
-fn load<R: Rig>(rig: &mut R, slot: u32, into: &mut [u8]) -> Result<(), Stop>
+fn load<R: Rig>(rig: &mut R, slot: u32, into: &mut [u8]) -> Result<(), CacheFault>
     requires { 64 + (slot + 1) * length into.old ≤ R.device_size rig.old FlashDevice }
     ensures bytes { R.tells → OnOk result (into.new ≡ slot_block (length into.old) (R.world rig.old) slot) }
     ensures world { R.tells → R.world rig.new ≡ R.world rig.old }
     ensures later { NeverFalls (R.counts rig.old) (R.counts rig.new) }
-    ensures cause { IfErr result (λ stop. Caused stop (R.counts rig.old) (R.counts rig.new)) }
+    ensures untouched { (R.counts rig.new).disk.writes ≡ (R.counts rig.old).disk.writes }
+    ensures cause { IfErr result (λ fault. Faulted fault (R.counts rig.old) (R.counts rig.new)) }
     ensures size { R.device_size rig.new ≡ R.device_size rig.old }
 {
     let at = SLOTS_AT + u64::from(slot) * into.len() as u64;
-    rig.read(Dev::Flash, at, into).map_err(|_| Stop::Flash)
+    rig.read(Dev::Flash, at, into)
+        .map_err(|_| CacheFault::FlashRead)
 }
 
 // Writes a slot of the flash.
-fn save<R: Rig>(rig: &mut R, slot: u32, from: &[u8]) -> Result<(), Stop>
+fn save<R: Rig>(rig: &mut R, slot: u32, from: &[u8]) -> Result<(), CacheFault>
     requires { 64 + (slot + 1) * length from.now ≤ R.device_size rig.old FlashDevice }
     ensures world { R.tells → OnOk result (R.world rig.new ≡ on_device FlashDevice (write_bytes (slot_at (length from.now) slot) from.now) (R.world rig.old)) }
     ensures others { R.tells → OnlyFlash (R.world rig.old) (R.world rig.new) }
+    ensures unread { R.tells → IfErr result (λ fault. LeavesWorld fault (R.world rig.old) (R.world rig.new)) }
     ensures later { NeverFalls (R.counts rig.old) (R.counts rig.new) }
-    ensures cause { IfErr result (λ stop. Caused stop (R.counts rig.old) (R.counts rig.new)) }
+    ensures untouched { (R.counts rig.new).disk.writes ≡ (R.counts rig.old).disk.writes }
+    ensures cause { IfErr result (λ fault. Faulted fault (R.counts rig.old) (R.counts rig.new)) }
     ensures size { R.device_size rig.new ≡ R.device_size rig.old }
 {
     let at = SLOTS_AT + u64::from(slot) * from.len() as u64;
-    rig.write(Dev::Flash, at, from).map_err(|_| Stop::Flash)
+    rig.write(Dev::Flash, at, from)
+        .map_err(|_| CacheFault::FlashWrite)
 }
 
 // Reads a block of the disk.
-fn fetch<R: Rig>(rig: &mut R, address: u32, into: &mut [u8]) -> Result<(), Stop>
+fn fetch<R: Rig>(rig: &mut R, address: u32, into: &mut [u8]) -> Result<(), CacheFault>
     requires { (address + 1) * length into.old ≤ R.device_size rig.old DiskDevice }
     ensures bytes { R.tells → OnOk result (into.new ≡ block_of (length into.old) (R.world rig.old) address) }
     ensures world { R.tells → R.world rig.new ≡ R.world rig.old }
     ensures later { NeverFalls (R.counts rig.old) (R.counts rig.new) }
-    ensures cause { IfErr result (λ stop. Caused stop (R.counts rig.old) (R.counts rig.new)) }
+    ensures untouched { (R.counts rig.new).disk.writes ≡ (R.counts rig.old).disk.writes }
+    ensures cause { IfErr result (λ fault. Faulted fault (R.counts rig.old) (R.counts rig.new)) }
     ensures size { R.device_size rig.new ≡ R.device_size rig.old }
 {
     let at = u64::from(address) * into.len() as u64;
-    rig.read(Dev::Disk, at, into).map_err(|_| Stop::Disk)
+    rig.read(Dev::Disk, at, into)
+        .map_err(|_| CacheFault::DiskRead)
 }
 
 // Whether a row has this fingerprint and these bytes.
@@ -86,13 +93,14 @@ fn is_this<R: Rig>(
     fp: Fp,
     block: &[u8],
     scratch: &mut [u8],
-) -> Result<bool, Stop>
+) -> Result<bool, CacheFault>
     requires size { length scratch.old ≡ length block.now }
     requires room { 64 + (row.slot + 1) * length block.now ≤ R.device_size rig.old FlashDevice }
     ensures found { R.tells → IfOk result (λ same. IsThis same row fp block.now (R.world rig.old)) }
     ensures world { R.tells → R.world rig.new ≡ R.world rig.old }
     ensures later { NeverFalls (R.counts rig.old) (R.counts rig.new) }
-    ensures cause { IfErr result (λ stop. Caused stop (R.counts rig.old) (R.counts rig.new)) }
+    ensures untouched { (R.counts rig.new).disk.writes ≡ (R.counts rig.old).disk.writes }
+    ensures cause { IfErr result (λ fault. Faulted fault (R.counts rig.old) (R.counts rig.new)) }
     ensures size { R.device_size rig.new ≡ R.device_size rig.old }
 {
     if row.fp != fp {
@@ -111,7 +119,7 @@ fn confirm<R: Rig>(
     block: &[u8],
     scratch: &mut [u8],
     most: u32,
-) -> Result<Option<BRow>, Stop>
+) -> Result<Option<BRow>, CacheFault>
     requires slots { IsAmong most rows.now }
     requires size { length scratch.old ≡ length block.now }
     requires room { 64 + (most + 1) * length block.now ≤ R.device_size rig.old FlashDevice }
@@ -119,7 +127,8 @@ fn confirm<R: Rig>(
     ensures slot { IfOk result (λ row. IfSome row (λ found. (found.slot ≤ most))) }
     ensures world { R.tells → R.world rig.new ≡ R.world rig.old }
     ensures later { NeverFalls (R.counts rig.old) (R.counts rig.new) }
-    ensures cause { IfErr result (λ stop. Caused stop (R.counts rig.old) (R.counts rig.new)) }
+    ensures untouched { (R.counts rig.new).disk.writes ≡ (R.counts rig.old).disk.writes }
+    ensures cause { IfErr result (λ fault. Faulted fault (R.counts rig.old) (R.counts rig.new)) }
     ensures size { R.device_size rig.new ≡ R.device_size rig.old }
 {
     for row in rows {
@@ -159,7 +168,7 @@ impl Cache {
         address: u32,
         block: &mut [u8],
         scratch: &mut [u8],
-    ) -> Result<Done, Stop>
+    ) -> Result<Done, CacheFault>
         requires address { address < self.old.blocks }
         requires size { (length block.old ≡ self.old.block) × (length scratch.old ≡ self.old.block) }
         requires fits { Fits self.old (R.device_size rig.old) }
@@ -171,9 +180,12 @@ impl Cache {
         ensures sound { R.tells → OnOk result (IsSound (F.printed print.now) self.new (R.world rig.new)) }
         ensures fits { OnOk result (Fits self.new (R.device_size rig.new)) }
         ensures sizes { OnOk result ((sizes_of self.new ≡ sizes_of self.old) × (self.new.count ≡ self.old.count + 1)) }
+        ensures kept { OnErr result (self.new ≡ self.old) }
         ensures others { R.tells → OnlyFlash (R.world rig.old) (R.world rig.new) }
+        ensures unread { R.tells → IfErr result (λ fault. LeavesWorld fault (R.world rig.old) (R.world rig.new)) }
         ensures later { NeverFalls (R.counts rig.old) (R.counts rig.new) }
-        ensures cause { IfErr result (λ stop. Caused stop (R.counts rig.old) (R.counts rig.new)) }
+        ensures untouched { (R.counts rig.new).disk.writes ≡ (R.counts rig.old).disk.writes }
+        ensures cause { IfErr result (λ fault. Faulted fault (R.counts rig.old) (R.counts rig.new)) }
         ensures size { R.device_size rig.new ≡ R.device_size rig.old }
     {
         let (kind, row) = self.locate(rig, print, address, block, scratch)?;
@@ -190,7 +202,7 @@ impl Cache {
         address: u32,
         block: &mut [u8],
         scratch: &mut [u8],
-    ) -> Result<(Kind, BRow), Stop>
+    ) -> Result<(Kind, BRow), CacheFault>
         requires address { address < self.now.blocks }
         requires size { (length block.old ≡ self.now.block) × (length scratch.old ≡ self.now.block) }
         requires fits { Fits self.now (R.device_size rig.old) }
@@ -198,8 +210,10 @@ impl Cache {
         ensures located { R.tells → IfOk result (λ found. Located (F.printed print.now) self.now (R.world rig.old) (R.world rig.new) address block.new found.0 found.1) }
         ensures slot { IfOk result (λ found. found.1.slot ≤ self.now.lists.bcap) }
         ensures others { R.tells → OnlyFlash (R.world rig.old) (R.world rig.new) }
+        ensures unread { R.tells → IfErr result (λ fault. LeavesWorld fault (R.world rig.old) (R.world rig.new)) }
         ensures later { NeverFalls (R.counts rig.old) (R.counts rig.new) }
-        ensures cause { IfErr result (λ stop. Caused stop (R.counts rig.old) (R.counts rig.new)) }
+        ensures untouched { (R.counts rig.new).disk.writes ≡ (R.counts rig.old).disk.writes }
+        ensures cause { IfErr result (λ fault. Faulted fault (R.counts rig.old) (R.counts rig.new)) }
         ensures size { R.device_size rig.new ≡ R.device_size rig.old }
     {
         match self.lists.linked_block(address) {
@@ -220,7 +234,7 @@ impl Cache {
         address: u32,
         block: &mut [u8],
         scratch: &mut [u8],
-    ) -> Result<(Kind, BRow), Stop>
+    ) -> Result<(Kind, BRow), CacheFault>
         requires address { address < self.now.blocks }
         requires unlinked { linked_block address self.now.lists.a ≡ None }
         requires size { (length block.old ≡ self.now.block) × (length scratch.old ≡ self.now.block) }
@@ -229,8 +243,10 @@ impl Cache {
         ensures located { R.tells → IfOk result (λ found. Located (F.printed print.now) self.now (R.world rig.old) (R.world rig.new) address block.new found.0 found.1) }
         ensures slot { IfOk result (λ found. found.1.slot ≤ self.now.lists.bcap) }
         ensures others { R.tells → OnlyFlash (R.world rig.old) (R.world rig.new) }
+        ensures unread { R.tells → IfErr result (λ fault. LeavesWorld fault (R.world rig.old) (R.world rig.new)) }
         ensures later { NeverFalls (R.counts rig.old) (R.counts rig.new) }
-        ensures cause { IfErr result (λ stop. Caused stop (R.counts rig.old) (R.counts rig.new)) }
+        ensures untouched { (R.counts rig.new).disk.writes ≡ (R.counts rig.old).disk.writes }
+        ensures cause { IfErr result (λ fault. Faulted fault (R.counts rig.old) (R.counts rig.new)) }
         ensures size { R.device_size rig.new ≡ R.device_size rig.old }
     {
         fetch(rig, address, block)?;

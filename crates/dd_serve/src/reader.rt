@@ -1,10 +1,12 @@
 // A script, read from its source in pieces and cut into lines.
-ghost use Rattle.std.specs.Prelude.{◌≡◌, ◌+◌, ◌-◌, ◌<◌, ◌≤◌, ◌≢◌, ◌↔◌, ◌++◌, ℕ, List, [], length, take, OnErr, IfOk, OnOk, IfErr, IfSome, false, true};
+ghost use Rattle.std.specs.Prelude.{◌≡◌, ◌+◌, ◌-◌, ◌<◌, ◌≤◌, ◌≢◌, ◌↔◌, ◌++◌, [], length, take, OnErr, IfOk, OnOk, IfErr, IfSome, true, false};
 ghost use Rattle.dd_rig.specs.Counts.{Rose};
-ghost use Rattle.dd_serve.specs.Reading.{Held, left, fuel, first_line, after_line, NextByte, NextLine, Burns, ScriptStops};
+ghost use Rattle.dd_serve.specs.Reading.{Held, left, fuel, first_line, after_line, NextByte, NextLine, ByteBurns, LineBurns, EndsInside, Spends};
+ghost use Rattle.dd_serve.specs.Causes.{ScriptHalts};
 
-use crate::stop::Stop;
+use crate::halt::Halt;
 use dd_rig::{Failed, Source};
+use dd_script::Stop;
 use std::alloc::{AllocError, Global};
 use std::marker::Model;
 
@@ -28,14 +30,14 @@ pub struct Reader {
 }
 
 impl Model for Reader {
-    ghost use Rattle.std.specs.Prelude.{◌≤◌, ◌≡◌, slice_range, vec_len};
+    ghost use Rattle.std.specs.Prelude.{◌≤◌, ◌<◌, ◌≡◌, true, slice_range, vec_len};
     ghost use Rattle.dd_serve.specs.Reading.{Held};
 
     ghost Value = { Held };
 
     ghost view = { λ r. record { bytes = slice_range r.buffer.items r.from r.until; taken = r.taken; ended = r.ended } };
 
-    ghost invariant = { λ r. (r.from ≤ r.until) × (r.until ≤ vec_len r.buffer) × (vec_len r.buffer ≡ 4096) × (r.taken ≤ 1099511627776) };
+    ghost invariant = { λ r. (r.from ≤ r.until) × (r.until ≤ vec_len r.buffer) × (vec_len r.buffer ≡ 4096) × (r.taken ≤ 1099511627776) × (r.ended ≡ true → r.taken < 1099511627776) };
 }
 
 impl Reader {
@@ -52,12 +54,11 @@ impl Reader {
     }
 
     /// The next byte of the script, or None at its end.
-    pub fn next_byte<S: Source>(&mut self, source: &mut S) -> Result<Option<u8>, Stop>
+    pub fn next_byte<S: Source>(&mut self, source: &mut S) -> Result<Option<u8>, Halt>
         ensures byte { S.tells → IfOk result (λ byte. NextByte byte (left self.old (S.rest source.old)) (left self.new (S.rest source.new))) }
-        ensures fuel { IfOk result (λ byte. Burns byte (fuel self.old) (fuel self.new)) }
-        ensures total { S.tells → OnOk result (self.new.taken + length (S.rest source.new) ≡ self.old.taken + length (S.rest source.old)) }
+        ensures fuel { IfOk result (λ byte. ByteBurns byte (fuel self.old) (fuel self.new)) }
         ensures later { S.failures source.old ≤ S.failures source.new }
-        ensures stop { IfErr result (λ stop. ScriptStops (S.tells → 1099511627776 ≤ self.old.taken + length (S.rest source.old)) stop (S.failures source.old) (S.failures source.new)) }
+        ensures halt { IfErr result (λ halt. ScriptHalts (fuel self.old ≡ 0) halt (S.failures source.old) (S.failures source.new)) }
     {
         self.fill(source)?;
         if self.from == self.until {
@@ -69,23 +70,22 @@ impl Reader {
     }
 
     // Takes the next piece, where nothing is held and the end hasn't come.
-    fn fill<S: Source>(&mut self, source: &mut S) -> Result<(), Stop>
+    fn fill<S: Source>(&mut self, source: &mut S) -> Result<(), Halt>
         ensures same { S.tells → OnOk result (left self.new (S.rest source.new) ≡ left self.old (S.rest source.old)) }
         ensures ended { OnOk result (self.new.bytes ≡ [] → self.new.ended ≡ true) }
         ensures fuel { OnOk result (fuel self.new ≡ fuel self.old) }
-        ensures total { S.tells → OnOk result (self.new.taken + length (S.rest source.new) ≡ self.old.taken + length (S.rest source.old)) }
         ensures later { S.failures source.old ≤ S.failures source.new }
-        ensures stop { IfErr result (λ stop. ScriptStops (S.tells → 1099511627776 ≤ self.old.taken + length (S.rest source.old)) stop (S.failures source.old) (S.failures source.new)) }
+        ensures halt { IfErr result (λ halt. ScriptHalts (fuel self.old ≡ 0) halt (S.failures source.old) (S.failures source.new)) }
     {
         if self.from < self.until || self.ended {
             return Ok(());
         }
         let room = SCRIPT_LIMIT - self.taken;
         if room == 0 {
-            return Err(Stop::Length);
+            return Err(Halt::Stopped(Stop::Length));
         }
         let Ok(count) = take_piece(source, &mut self.buffer, room) else {
-            return Err(Stop::Script);
+            return Err(Halt::Stopped(Stop::Script));
         };
         self.from = 0;
         self.until = count;
@@ -100,14 +100,15 @@ impl Reader {
         &mut self,
         source: &mut S,
         into: &mut [u8],
-    ) -> Result<Option<usize>, Stop>
+    ) -> Result<Option<usize>, Halt>
         requires { length into.old ≡ 8449 }
         ensures line { S.tells → IfOk result (λ size. NextLine size into.new (left self.old (S.rest source.old)) (left self.new (S.rest source.new))) }
         ensures fits { IfOk result (λ size. IfSome size (λ n. n ≤ 8449)) }
-        ensures fuel { IfOk result (λ size. Burns size (fuel self.old) (fuel self.new)) }
-        ensures total { S.tells → OnOk result (self.new.taken + length (S.rest source.new) ≡ self.old.taken + length (S.rest source.old)) }
+        ensures fuel { IfOk result (λ size. LineBurns size (fuel self.old) (fuel self.new)) }
+        ensures inside { S.tells → OnOk result (EndsInside (left self.old (S.rest source.old)) (fuel self.new)) }
+        ensures spends { S.tells → OnOk result (Spends (left self.old (S.rest source.old)) (left self.new (S.rest source.new)) (fuel self.old) (fuel self.new)) }
         ensures later { S.failures source.old ≤ S.failures source.new }
-        ensures stop { IfErr result (λ stop. ScriptStops (S.tells → 1099511627776 ≤ self.old.taken + length (S.rest source.old)) stop (S.failures source.old) (S.failures source.new)) }
+        ensures halt { IfErr result (λ halt. ScriptHalts (S.tells → fuel self.old ≤ length (first_line (left self.old (S.rest source.old)))) halt (S.failures source.old) (S.failures source.new)) }
     {
         let mut size = 0;
         let mut begun = false;

@@ -1,23 +1,33 @@
 // Serving a script: one reply for each command.
-ghost use Rattle.std.specs.Prelude.{◌≡◌, ◌+◌, ◌<◌, ◌≤◌, ◌^◌, ◌++◌, [], ◌∷◌, length, IfOk, OnOk, OnErr, IfErr};
+ghost use Rattle.std.specs.Prelude.{◌≡◌, ◌+◌, ◌<◌, ◌≤◌, ◌^◌, length, Err, IfSome, IfOk, OnOk, OnErr, IfErr};
 ghost use Rattle.dd_rig.specs.Counts.{NeverFalls, Rose};
 ghost use Rattle.dd_rig.specs.World as world;
-ghost use Rattle.dd_serve.specs.Causes.{Caused};
-ghost use Rattle.dd_serve.specs.Holds.{Fits, IsSound, state_of, sizes_of};
-ghost use Rattle.dd_serve.specs.Line.{lines_of, commands_of, Commands, IsBelow, BurnsUnlessQuit};
-ghost use Rattle.dd_serve.specs.Reading.{left, fuel, ScriptStops};
-ghost use Rattle.dd_serve.specs.Reply.{reply, after, output};
-ghost use Rattle.dd_serve.specs.Run.{Stops};
+ghost use Rattle.dd_rig.specs.World.{SaysSome};
+ghost use Rattle.dd_script.specs.Line.{told, IsBelow};
+ghost use Rattle.dd_script.specs.Script.{commands_of, EndsWithin};
+ghost use Rattle.dd_script.specs.Command.{read};
+ghost use Rattle.dd_serve.specs.declared.halt.Halt.TheVariants.{Output};
+ghost use Rattle.dd_serve.specs.Causes.{Caused, Halts, ScriptHalts};
+ghost use Rattle.dd_serve.specs.Holds.{Fits, IsSound, OnlyFlash, state_of, sizes_of};
+ghost use Rattle.dd_serve.specs.Reading.{left, fuel, fronted, quits, BurnsUnlessQuit, Bounds};
+ghost use Rattle.dd_serve.specs.Serving.{AnswersLine, WritesAnswer, WritesLine, HaltsByFlash, CutsLine, ServedAll, ServedUpTo};
 
-use crate::cache::Cache;
-use crate::line::{Line, parse};
+use crate::cache::{Cache, CacheFault};
+use crate::halt::Halt;
 use crate::reader::Reader;
-use crate::reply::{write_bye, write_read};
-use crate::stop::Stop;
 use dd_block::Fingerprint;
-use dd_rig::{Rig, Source};
+use dd_rig::{Dev, Rig, Source};
+use dd_script::{Line, Reply, Stop, parse, reply_read, write_reply};
 
-/// Serves a script up to its end, or to its first q.
+/// The line that answers another, in a buffer: its length, and whether it says that a read failed.
+#[derive(Clone, Copy, Debug, PartialEq, Eq)]
+pub struct Answer {
+    pub size: usize,
+    pub faulted: bool,
+}
+
+/// Serves a script up to its end, or to its first q. Answers whether a read failed, and its command
+/// was answered so.
 #[tactic(auto, using(crate::proofs::Causes::cause_steps))]
 pub fn serve<F: Fingerprint, R: Rig, S: Source>(
     cache: &mut Cache,
@@ -29,7 +39,7 @@ pub fn serve<F: Fingerprint, R: Rig, S: Source>(
     block: &mut [u8],
     scratch: &mut [u8],
     text: &mut [u8],
-) -> Result<(), Stop>
+) -> Result<bool, Halt>
     requires line { length line.old ≡ 8449 }
     requires text { length text.old ≡ 8448 }
     requires size { (length block.old ≡ cache.old.block) × (length scratch.old ≡ cache.old.block) }
@@ -37,36 +47,48 @@ pub fn serve<F: Fingerprint, R: Rig, S: Source>(
     requires count { cache.old.count + fuel reader.old + 1 < 2 ^ 64 }
     requires fits { Fits cache.old (R.device_size rig.old) }
     requires sound { R.tells → IsSound (F.printed print.now) cache.old (R.world rig.old) }
-    ensures output { R.tells → S.tells → OnOk result ((R.world rig.new).said
-        ≡ (R.world rig.old).said ++ output (F.printed print.now) (sizes_of cache.old) (state_of cache.old (R.world rig.old)) (commands_of cache.old.blocks (lines_of (left reader.old (S.rest source.old))))) }
+    ensures all { R.tells → S.tells → IfOk result (λ faulted. ServedAll (F.printed print.now) (sizes_of cache.old) (state_of cache.old (R.world rig.old))
+        (commands_of cache.old.blocks (left reader.old (S.rest source.old))) faulted (R.world rig.old).said (R.world rig.new).said (R.counts rig.old) (R.counts rig.new)) }
+    ensures some { R.tells → S.tells → IfErr result (λ halt. ServedUpTo (F.printed print.now) (sizes_of cache.old) (state_of cache.old (R.world rig.old))
+        (commands_of cache.old.blocks (left reader.old (S.rest source.old))) halt (R.world rig.old).said (R.world rig.new).said (R.counts rig.old) (R.counts rig.new)) }
+    ensures bounded { S.tells → OnOk result (EndsWithin (fuel reader.old) cache.old.blocks (left reader.old (S.rest source.old))) }
     ensures disk { R.tells → (R.world rig.new).disk ≡ (R.world rig.old).disk }
+    ensures untouched { (R.counts rig.new).disk.writes ≡ (R.counts rig.old).disk.writes }
     ensures later { NeverFalls (R.counts rig.old) (R.counts rig.new) }
-    ensures stop { IfErr result (λ stop. Stops (S.tells → 1099511627776 ≤ reader.old.taken + length (S.rest source.old)) stop (R.counts rig.old) (R.counts rig.new) (S.failures source.old) (S.failures source.new)) }
+    ensures halt { IfErr result (λ halt. Halts (S.tells → EndsWithin (fuel reader.old) cache.old.blocks (left reader.old (S.rest source.old)) → ⊥) halt
+        (R.counts rig.old) (R.counts rig.new) (S.failures source.old) (S.failures source.new)) }
 {
-    'commands: loop {
-        let command = next_command(reader, source, line, cache.blocks)?;
-        answer(cache, rig, print, command, block, scratch, text)?;
-        if command == Line::Quit {
-            return Ok(());
+    let mut faulted = false;
+    'lines: loop {
+        let said = next_line(reader, source, line, cache.blocks)?;
+        let failed = answer_line(cache, rig, print, said, block, scratch, text)?;
+        faulted = faulted | failed;
+        if is_quit(said) {
+            return Ok(faulted);
         }
     }
 }
 
-// The next command. Where the script has ended it is a q.
-fn next_command<S: Source>(
+fn is_quit(said: Line) -> bool
+    ensures { result ≡ quits (told said) }
+{
+    matches!(said, Line::Quit)
+}
+
+// The next line. Where the script has ended it is a q.
+fn next_line<S: Source>(
     reader: &mut Reader,
     source: &mut S,
     line: &mut [u8],
     blocks: u32,
-) -> Result<Line, Stop>
+) -> Result<Line, Halt>
     requires line { length line.old ≡ 8449 }
-    requires some { 0 < blocks }
-    ensures command { S.tells → IfOk result (λ command. Commands blocks command (left reader.old (S.rest source.old)) (left reader.new (S.rest source.new))) }
-    ensures below { IfOk result (λ command. IsBelow blocks command) }
-    ensures fuel { IfOk result (λ command. BurnsUnlessQuit command (fuel reader.old) (fuel reader.new)) }
-    ensures total { S.tells → OnOk result (reader.new.taken + length (S.rest source.new) ≡ reader.old.taken + length (S.rest source.old)) }
+    ensures command { S.tells → IfOk result (λ said. commands_of blocks (left reader.old (S.rest source.old)) ≡ fronted (told said) (commands_of blocks (left reader.new (S.rest source.new)))) }
+    ensures bounds { S.tells → IfOk result (λ said. Bounds said (EndsWithin (fuel reader.old) blocks (left reader.old (S.rest source.old))) (EndsWithin (fuel reader.new) blocks (left reader.new (S.rest source.new)))) }
+    ensures below { IfOk result (λ said. IsBelow blocks said) }
+    ensures fuel { IfOk result (λ said. BurnsUnlessQuit said (fuel reader.old) (fuel reader.new)) }
     ensures later { S.failures source.old ≤ S.failures source.new }
-    ensures stop { IfErr result (λ stop. ScriptStops (S.tells → 1099511627776 ≤ reader.old.taken + length (S.rest source.old)) stop (S.failures source.old) (S.failures source.new)) }
+    ensures halt { IfErr result (λ halt. ScriptHalts (S.tells → EndsWithin (fuel reader.old) blocks (left reader.old (S.rest source.old)) → ⊥) halt (S.failures source.old) (S.failures source.new)) }
 {
     match reader.next_line(source, line)? {
         None => Ok(Line::Quit),
@@ -74,56 +96,143 @@ fn next_command<S: Source>(
     }
 }
 
-// One command and its reply.
+// Answers one line. True: a read failed, and the answer says so.
 #[tactic(auto, using(crate::proofs::Causes::cause_steps))]
-fn answer<F: Fingerprint, R: Rig>(
+fn answer_line<F: Fingerprint, R: Rig>(
     cache: &mut Cache,
     rig: &mut R,
     print: &F,
-    command: Line,
+    said: Line,
     block: &mut [u8],
     scratch: &mut [u8],
     text: &mut [u8],
-) -> Result<(), Stop>
-    requires below { IsBelow cache.old.blocks command }
+) -> Result<bool, Halt>
+    requires below { IsBelow cache.old.blocks said }
     requires text { length text.old ≡ 8448 }
     requires size { (length block.old ≡ cache.old.block) × (length scratch.old ≡ cache.old.block) }
     requires count { cache.old.count + 1 < 2 ^ 64 }
     requires fits { Fits cache.old (R.device_size rig.old) }
     requires sound { R.tells → IsSound (F.printed print.now) cache.old (R.world rig.old) }
-    ensures reply { R.tells → OnOk result ((R.world rig.new).said
-        ≡ (R.world rig.old).said ++ reply (F.printed print.now) (sizes_of cache.old) (state_of cache.old (R.world rig.old)) command) }
-    ensures state { R.tells → OnOk result (state_of cache.new (R.world rig.new) ≡ after (sizes_of cache.old) (state_of cache.old (R.world rig.old)) command) }
+    ensures answer { R.tells → IfOk result (λ faulted. AnswersLine (F.printed print.now) (sizes_of cache.old) (told said) faulted (state_of cache.old (R.world rig.old)) (state_of cache.new (R.world rig.new))
+        (R.world rig.old).said (R.world rig.new).said (R.counts rig.old) (R.counts rig.new)) }
+    ensures cut { R.tells → IfErr result (λ halt. CutsLine (F.printed print.now) (sizes_of cache.old) halt (told said) (state_of cache.old (R.world rig.old)) (R.world rig.old).said (R.world rig.new).said (R.counts rig.old) (R.counts rig.new)) }
     ensures sound { R.tells → OnOk result (IsSound (F.printed print.now) cache.new (R.world rig.new)) }
     ensures fits { OnOk result (Fits cache.new (R.device_size rig.new)) }
     ensures sizes { OnOk result ((sizes_of cache.new ≡ sizes_of cache.old) × (cache.new.count ≤ cache.old.count + 1)) }
     ensures disk { R.tells → (R.world rig.new).disk ≡ (R.world rig.old).disk }
+    ensures untouched { (R.counts rig.new).disk.writes ≡ (R.counts rig.old).disk.writes }
     ensures later { NeverFalls (R.counts rig.old) (R.counts rig.new) }
-    ensures cause { IfErr result (λ stop. Caused stop (R.counts rig.old) (R.counts rig.new)) }
+    ensures cause { IfErr result (λ halt. Caused halt (R.counts rig.old) (R.counts rig.new)) }
     ensures size { R.device_size rig.new ≡ R.device_size rig.old }
 {
-    match command {
-        Line::Read(address) => {
-            let done = cache.read(rig, print, address, block, scratch)?;
-            let size = write_read(done, block, text);
-            say(rig, &text[..size])
+    match write_answer(cache, rig, print, said, block, scratch, text)? {
+        None => Ok(false),
+        Some(answer) => {
+            say(rig, &text[..answer.size])?;
+            Ok(answer.faulted)
         }
-        Line::Quit => {
-            let size = write_bye(cache.count, text);
-            say(rig, &text[..size])
-        }
-        Line::BadWord => say(rig, b"bad word\n"),
+    }
+}
+
+// Writes the answer to one line, where it has one.
+#[tactic(auto, using(crate::proofs::Causes::cause_steps))]
+fn write_answer<F: Fingerprint, R: Rig>(
+    cache: &mut Cache,
+    rig: &mut R,
+    print: &F,
+    said: Line,
+    block: &mut [u8],
+    scratch: &mut [u8],
+    text: &mut [u8],
+) -> Result<Option<Answer>, Halt>
+    requires below { IsBelow cache.old.blocks said }
+    requires text { length text.old ≡ 8448 }
+    requires size { (length block.old ≡ cache.old.block) × (length scratch.old ≡ cache.old.block) }
+    requires count { cache.old.count + 1 < 2 ^ 64 }
+    requires fits { Fits cache.old (R.device_size rig.old) }
+    requires sound { R.tells → IsSound (F.printed print.now) cache.old (R.world rig.old) }
+    ensures answer { R.tells → IfOk result (λ answer. WritesAnswer (F.printed print.now) (sizes_of cache.old) (told said) answer text.new (state_of cache.old (R.world rig.old)) (state_of cache.new (R.world rig.new)) (R.counts rig.old) (R.counts rig.new)) }
+    ensures room { IfOk result (λ answer. IfSome answer (λ a. a.size ≤ 8448)) }
+    ensures sound { R.tells → OnOk result (IsSound (F.printed print.now) cache.new (R.world rig.new)) }
+    ensures fits { OnOk result (Fits cache.new (R.device_size rig.new)) }
+    ensures sizes { OnOk result ((sizes_of cache.new ≡ sizes_of cache.old) × (cache.new.count ≤ cache.old.count + 1)) }
+    ensures others { R.tells → OnlyFlash (R.world rig.old) (R.world rig.new) }
+    ensures untouched { (R.counts rig.new).disk.writes ≡ (R.counts rig.old).disk.writes }
+    ensures later { NeverFalls (R.counts rig.old) (R.counts rig.new) }
+    ensures halt { IfErr result (λ halt. HaltsByFlash halt (R.counts rig.old) (R.counts rig.new)) }
+    ensures size { R.device_size rig.new ≡ R.device_size rig.old }
+{
+    match said {
+        Line::Skip => Ok(None),
+        Line::Read(address) => Ok(Some(write_read(
+            cache, rig, print, address, block, scratch, text,
+        )?)),
+        Line::Quit => Ok(Some(Answer {
+            size: write_reply(Reply::Bye(cache.count), text),
+            faulted: false,
+        })),
+        Line::Bad(kind) => Ok(Some(Answer {
+            size: write_reply(Reply::Bad(kind), text),
+            faulted: false,
+        })),
+    }
+}
+
+// Writes the answer to a read.
+#[tactic(auto, using(crate::proofs::Causes::cause_steps))]
+fn write_read<F: Fingerprint, R: Rig>(
+    cache: &mut Cache,
+    rig: &mut R,
+    print: &F,
+    address: u32,
+    block: &mut [u8],
+    scratch: &mut [u8],
+    text: &mut [u8],
+) -> Result<Answer, Halt>
+    requires below { address < cache.old.blocks }
+    requires text { length text.old ≡ 8448 }
+    requires size { (length block.old ≡ cache.old.block) × (length scratch.old ≡ cache.old.block) }
+    requires count { cache.old.count + 1 < 2 ^ 64 }
+    requires fits { Fits cache.old (R.device_size rig.old) }
+    requires sound { R.tells → IsSound (F.printed print.now) cache.old (R.world rig.old) }
+    ensures answer { R.tells → IfOk result (λ answer. WritesLine (F.printed print.now) (sizes_of cache.old) (read address) answer text.new (state_of cache.old (R.world rig.old)) (state_of cache.new (R.world rig.new)) (R.counts rig.old) (R.counts rig.new)) }
+    ensures room { IfOk result (λ answer. answer.size ≤ 8448) }
+    ensures sound { R.tells → OnOk result (IsSound (F.printed print.now) cache.new (R.world rig.new)) }
+    ensures fits { OnOk result (Fits cache.new (R.device_size rig.new)) }
+    ensures sizes { OnOk result ((sizes_of cache.new ≡ sizes_of cache.old) × (cache.new.count ≤ cache.old.count + 1)) }
+    ensures others { R.tells → OnlyFlash (R.world rig.old) (R.world rig.new) }
+    ensures untouched { (R.counts rig.new).disk.writes ≡ (R.counts rig.old).disk.writes }
+    ensures later { NeverFalls (R.counts rig.old) (R.counts rig.new) }
+    ensures halt { IfErr result (λ halt. HaltsByFlash halt (R.counts rig.old) (R.counts rig.new)) }
+    ensures size { R.device_size rig.new ≡ R.device_size rig.old }
+{
+    match cache.read(rig, print, address, block, scratch) {
+        Ok(done) => Ok(Answer {
+            size: reply_read(done, block, text),
+            faulted: false,
+        }),
+        Err(CacheFault::FlashRead) => Ok(Answer {
+            size: write_reply(Reply::Fault(Dev::Flash), text),
+            faulted: true,
+        }),
+        Err(CacheFault::DiskRead) => Ok(Answer {
+            size: write_reply(Reply::Fault(Dev::Disk), text),
+            faulted: true,
+        }),
+        Err(CacheFault::FlashWrite) => Err(Halt::Stopped(Stop::Flash)),
     }
 }
 
 /// Emits a piece.
-pub fn say<R: Rig>(rig: &mut R, piece: &[u8]) -> Result<(), Stop>
+pub fn say<R: Rig>(rig: &mut R, piece: &[u8]) -> Result<(), Halt>
     ensures said { R.tells → OnOk result (R.world rig.new ≡ world.say piece.now (R.world rig.old)) }
-    ensures rose { OnErr result (Rose (R.counts rig.old).failed_emits (R.counts rig.new).failed_emits) }
+    ensures part { R.tells → SaysSome piece.now (R.world rig.old) (R.world rig.new) }
     ensures others { R.tells → ((R.world rig.new).flash ≡ (R.world rig.old).flash) × ((R.world rig.new).disk ≡ (R.world rig.old).disk) }
+    ensures untouched { (R.counts rig.new).disk.writes ≡ (R.counts rig.old).disk.writes }
     ensures later { NeverFalls (R.counts rig.old) (R.counts rig.new) }
-    ensures cause { IfErr result (λ stop. Caused stop (R.counts rig.old) (R.counts rig.new)) }
+    ensures halt { OnErr result (result ≡ Err Output) }
+    ensures rose { OnErr result (Rose (R.counts rig.old).failed_emits (R.counts rig.new).failed_emits) }
     ensures size { R.device_size rig.new ≡ R.device_size rig.old }
 {
-    rig.emit(piece).map_err(|_| Stop::Output)
+    rig.emit(piece).map_err(|_| Halt::Output)
 }

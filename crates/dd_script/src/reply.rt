@@ -1,0 +1,43 @@
+// What a line of output says, but for those that show a block.
+
+use crate::BadKind;
+use dd_rig::Dev;
+
+/// Why a run stopped before the end of its script.
+#[derive(Clone, Copy, Debug, PartialEq, Eq)]
+pub enum Stop {
+    /// A write or a sync of the flash failed.
+    Flash,
+    /// A write or a sync of the disk failed.
+    Disk,
+    /// A take of the script's source failed.
+    Script,
+    /// The script has too many bytes.
+    Length,
+    /// There was no memory to begin with.
+    Memory,
+}
+
+/// Why a run was refused before it began.
+#[derive(Clone, Copy, Debug, PartialEq, Eq)]
+pub enum Refusal {
+    /// The words are no known form, or a number is out of its range.
+    Words,
+    /// The flash has fewer bytes than the run needs.
+    FlashSmall { need: u64, have: u64 },
+    /// The disk has fewer bytes than the run needs.
+    DiskSmall { need: u64, have: u64 },
+}
+
+/// A line of output.
+#[derive(Clone, Copy, Debug, PartialEq, Eq)]
+pub enum Reply {
+    /// The line is no command.
+    Bad(BadKind),
+    /// A read of that device failed, and nothing has changed.
+    Fault(Dev),
+    /// The end, after that many references.
+    Bye(u64),
+    Stopped(Stop),
+    Refused(Refusal),
+}

@@ -1,0 +1,203 @@
+// The text of each line of output.
+ghost use Rattle.std.specs.Prelude.{◌≡◌, ◌+◌, ◌*◌, ◌≤◌, ◌++◌, [], length, take, codes, decimal, option_map};
+ghost use Rattle.dd_block.specs.Text.{block_text};
+ghost use Rattle.dd_script.specs.declared.reply.Reply.TheVariants.{Bad, Fault, Stopped};
+ghost use Rattle.dd_script.specs.Text.{HasNoEnd, ended, kind_word, out_text, drop_text, read_text, bye_text, reply_text, refusal_text, small_text};
+
+use crate::{BadKind, Refusal, Reply, Stop};
+use dd_block::{Fp, write_block_text};
+use dd_model::{Done, Kind};
+use dd_record::BRow;
+use dd_rig::Dev;
+use itoa::Buffer;
+
+/// Bytes that each line of output fits, its LF included.
+pub const REPLY_ROOM: usize = 8_448;
+
+/// Writes the line that answers a read of a block of at most 4,096 bytes, and answers its length.
+/// The LF is the last byte of it.
+pub fn reply_read(done: Done, block: &[u8], into: &mut [u8]) -> usize
+    requires room { length into.old ≡ 8448 }
+    requires block { length block.now ≤ 4096 }
+    ensures text { take result into.new ≡ ended (read_text done.kind block.now done.cut.out (option_map (λ row. row.fp) done.cut.drop)) }
+    ensures line { HasNoEnd (read_text done.kind block.now done.cut.out (option_map (λ row. row.fp) done.cut.drop)) }
+    ensures fits { result ≤ 8448 }
+{
+    let kind = put(into, 0, kind_name(done.kind));
+    let space = put(into, kind, b" ");
+    let text = put_block(into, space, block);
+    let out = put_out(into, text, done.cut.out);
+    let drop = put_drop(into, out, print_of(done.cut.drop));
+    put(into, drop, b"\n")
+}
+
+/// Writes any other line of output, and answers its length. The LF is the last byte of it.
+pub fn write_reply(reply: Reply, into: &mut [u8]) -> usize
+    requires room { length into.old ≡ 8448 }
+    ensures text { take result into.new ≡ ended (reply_text reply) }
+    ensures line { HasNoEnd (reply_text reply) }
+    ensures fits { result ≤ 8448 }
+{
+    match reply {
+        Reply::Bad(kind) => put(into, 0, bad_line(kind)),
+        Reply::Fault(dev) => put(into, 0, fault_line(dev)),
+        Reply::Bye(count) => write_bye(count, into),
+        Reply::Stopped(why) => put(into, 0, stopped_line(why)),
+        Reply::Refused(why) => write_refusal(why, into),
+    }
+}
+
+fn write_bye(count: u64, into: &mut [u8]) -> usize
+    requires { length into.old ≡ 8448 }
+    ensures text { take result into.new ≡ ended (bye_text count) }
+    ensures line { HasNoEnd (bye_text count) }
+    ensures fits { result ≤ 8448 }
+{
+    let word = put(into, 0, b"bye ");
+    let number = put_number(into, word, count);
+    put(into, number, b"\n")
+}
+
+fn write_refusal(why: Refusal, into: &mut [u8]) -> usize
+    requires { length into.old ≡ 8448 }
+    ensures text { take result into.new ≡ ended (refusal_text why) }
+    ensures line { HasNoEnd (refusal_text why) }
+    ensures fits { result ≤ 8448 }
+{
+    match why {
+        Refusal::Words => put(into, 0, b"refused words\n"),
+        Refusal::FlashSmall { need, have } => write_small(b"flash", need, have, into),
+        Refusal::DiskSmall { need, have } => write_small(b"disk", need, have, into),
+    }
+}
+
+fn write_small(device: &[u8], need: u64, have: u64, into: &mut [u8]) -> usize
+    requires room { length into.old ≡ 8448 }
+    requires device { length device.now ≤ 5 }
+    requires line { HasNoEnd device.now }
+    ensures text { take result into.new ≡ ended (small_text device.now need have) }
+    ensures line { HasNoEnd (small_text device.now need have) }
+    ensures fits { result ≤ 8448 }
+{
+    let word = put(into, 0, b"refused ");
+    let name = put(into, word, device);
+    let small = put(into, name, b" small ");
+    let first = put_number(into, small, need);
+    let space = put(into, first, b" ");
+    let second = put_number(into, space, have);
+    put(into, second, b"\n")
+}
+
+fn bad_line(kind: BadKind) -> &'static [u8]
+    ensures text { result.now ≡ ended (reply_text (Bad kind)) }
+    ensures short { length result.now ≤ 100 }
+{
+    match kind {
+        BadKind::Long => b"bad long\n",
+        BadKind::Word => b"bad word\n",
+        BadKind::Address => b"bad address\n",
+        BadKind::Rest => b"bad rest\n",
+    }
+}
+
+fn fault_line(dev: Dev) -> &'static [u8]
+    ensures text { result.now ≡ ended (reply_text (Fault dev)) }
+    ensures short { length result.now ≤ 100 }
+{
+    match dev {
+        Dev::Flash => b"fault flash\n",
+        Dev::Disk => b"fault disk\n",
+    }
+}
+
+fn stopped_line(why: Stop) -> &'static [u8]
+    ensures text { result.now ≡ ended (reply_text (Stopped why)) }
+    ensures short { length result.now ≤ 100 }
+{
+    match why {
+        Stop::Flash => b"stopped flash\n",
+        Stop::Disk => b"stopped disk\n",
+        Stop::Script => b"stopped script\n",
+        Stop::Length => b"stopped length\n",
+        Stop::Memory => b"stopped memory\n",
+    }
+}
+
+fn kind_name(kind: Kind) -> &'static [u8]
+    ensures text { result.now ≡ kind_word kind }
+    ensures short { length result.now ≤ 4 }
+{
+    match kind {
+        Kind::Hit => b"hit",
+        Kind::Join => b"join",
+        Kind::Miss => b"miss",
+        Kind::Dup => b"dup",
+        Kind::New => b"new",
+    }
+}
+
+fn print_of(row: Option<BRow>) -> Option<Fp>
+    ensures { result ≡ option_map (λ found. found.fp) row }
+{
+    row.map(|found| found.fp)
+}
+
+// Puts a text behind the first bytes, and answers where it ends.
+fn put(into: &mut [u8], at: usize, text: &[u8]) -> usize
+    requires { at + length text.now ≤ length into.old }
+    ensures text { take result into.new ≡ take at into.old ++ text.now }
+    ensures end { result ≡ at + length text.now }
+{
+    let end = at + text.len();
+    into[at..end].copy_from_slice(text);
+    end
+}
+
+fn put_number(into: &mut [u8], at: usize, number: u64) -> usize
+    requires { at + 40 ≤ length into.old }
+    ensures text { take result into.new ≡ take at into.old ++ decimal number }
+    ensures end { result ≤ at + 40 }
+{
+    let mut digits = Buffer::new();
+    put(into, at, digits.format(number).as_bytes())
+}
+
+fn put_block(into: &mut [u8], at: usize, block: &[u8]) -> usize
+    requires { at + 2 * length block.now + 2 ≤ length into.old }
+    ensures text { take result into.new ≡ take at into.old ++ block_text block.now }
+    ensures end { result ≤ at + 2 * length block.now + 2 }
+{
+    let size = write_block_text(block, &mut into[at..]);
+    at + size
+}
+
+fn put_out(into: &mut [u8], at: usize, out: Option<u32>) -> usize
+    requires { at + 45 ≤ length into.old }
+    ensures text { take result into.new ≡ take at into.old ++ out_text out }
+    ensures line { HasNoEnd (out_text out) }
+    ensures end { result ≤ at + 45 }
+{
+    match out {
+        None => at,
+        Some(address) => {
+            let word = put(into, at, b" out ");
+            put_number(into, word, u64::from(address))
+        }
+    }
+}
+
+fn put_drop(into: &mut [u8], at: usize, drop: Option<Fp>) -> usize
+    requires { at + 22 ≤ length into.old }
+    ensures text { take result into.new ≡ take at into.old ++ drop_text drop }
+    ensures end { result ≤ at + 22 }
+{
+    match drop {
+        None => at,
+        Some(fp) => {
+            let word = put(into, at, b" drop ");
+            let mut digits = [0u8; 16];
+            let _ = hex::encode_to_slice(&fp.0[..8], &mut digits);
+            put(into, word, &digits)
+        }
+    }
+}

@@ -1,0 +1,58 @@
+-- Answers, line by line.
+use Rattle.std.proofs.Common.{◌≡◌, ◌≢◌, ◌⊎◌, inl, inr, ⊎_elim, ℕ, ◌+◌, ◌<◌, ◌≤◌, Bool, true, false, List, [], ◌∷◌, ◌++◌, length, take, refl, sym, ◌∙◌, ap, subst, arith, Some, None}
+use Rattle.std.specs.Prelude.{Option}
+use Rattle.dd_block.specs.declared.print.Fp.{Fp}
+use Rattle.dd_rig.specs.declared.device.Dev.{Dev}
+use Rattle.dd_rig.specs.declared.device.Dev.TheVariants as dev
+use Rattle.dd_rig.specs.declared.tallies.Counts.{Counts}
+use Rattle.dd_rig.specs.Counts.{Rose, NeverFalls, calls_of}
+use Rattle.dd_rig.specs.Device.{Device}
+use Rattle.dd_rig.specs.World.{World, say}
+use Rattle.dd_model.specs.State.{Sizes, State}
+use Rattle.dd_script.specs.Command.{Command, read, quit, bad}
+use Rattle.dd_script.specs.Text.{HasNoEnd, ended, fault_text}
+use Rattle.dd_script.specs.Answers.{MayFault}
+use Rattle.dd_serve.specs.declared.cache.Cache.{Cache}
+use Rattle.dd_serve.specs.declared.serving.Answer.{Answer}
+use Rattle.dd_serve.specs.Holds.{IsSound, state_of}
+use Rattle.dd_script.specs.declared.reply.Stop.{Stop}
+use Rattle.dd_serve.specs.declared.halt.Halt.{Halt}
+use Rattle.dd_serve.specs.declared.halt.Halt.TheVariants.{Stopped, Output}
+use Rattle.dd_serve.specs.Serving.{Replied, WritesLine, WritesAnswer, AnswersLine, CutsLine}
+
+rose_later : (device : Dev) (a b c : Counts) → NeverFalls b c → Rose (calls_of device a).failed_reads (calls_of device b).failed_reads → Rose (calls_of device a).failed_reads (calls_of device c).failed_reads
+rose_later dev.Flash a b c h r = omega (arith, h.flash_reads, r)
+rose_later dev.Disk a b c h r = omega (arith, h.disk_reads, r)
+
+-- what is said changes neither device
+pub sound_said : (print : List ℕ → Fp) (cache : Cache) (piece : List ℕ) (old new : World) → new ≡ say piece old → IsSound print cache old → IsSound print cache new
+sound_said print cache piece old new e h = let P : World → Type 0 = λ w. IsSound print cache w in subst P (sym e) h
+
+pub state_said : (cache : Cache) (piece : List ℕ) (old new : World) → new ≡ say piece old → state_of cache new ≡ state_of cache old
+state_said cache piece old new e = ap (state_of cache) e
+
+module _ (print : List ℕ → Fp) (sizes : Sizes) where
+  replied_later : (faulted : Bool) (command : Command) (line : List ℕ) (old new : State) (a b c : Counts) → NeverFalls b c → Replied print sizes faulted command line old new a b → Replied print sizes faulted command line old new a c
+  replied_later false command line old new a b c h r = r
+  replied_later true command line old new a b c h r = (r.0, r.1, r.2, r.3, rose_later r.0 a b c h r.4)
+
+  -- the line that was written was said
+  pub answers_written : (o : Option Command) (answer : Answer) (text : List ℕ) (old new later : State) (said_before said_after : List ℕ) (a b c : Counts)
+      → WritesAnswer print sizes o (Some answer) text old new a b → later ≡ new → said_after ≡ said_before ++ take answer.size text → NeverFalls b c
+      → AnswersLine print sizes o answer.faulted old later said_before said_after a c
+  answers_written None answer text old new later said_before said_after a b c w same said h = absurd w
+  answers_written (Some command) answer text old new later said_before said_after a b c w same said h =
+      (w.0, w.1, said ∙ ap (λ (l : List ℕ). said_before ++ l) w.2, subst (λ (s : State). Replied print sizes answer.faulted command w.0 old s a c) (sym same) (replied_later answer.faulted command w.0 old new a b c h w.3))
+
+  -- a part of it was
+  pub cuts_written : (o : Option Command) (answer : Answer) (text : List ℕ) (old new : State) (said_before said_after : List ℕ) (n : ℕ) (a b c : Counts)
+      → WritesAnswer print sizes o (Some answer) text old new a b → said_after ≡ said_before ++ take n (take answer.size text) → NeverFalls b c
+      → CutsLine print sizes Output o old said_before said_after a c
+  cuts_written None answer text old new said_before said_after n a b c w said h = absurd w
+  cuts_written (Some command) answer text old new said_before said_after n a b c w said h =
+      (w.0, n, w.1, said ∙ ap (λ (l : List ℕ). said_before ++ take n l) w.2, answer.faulted, new, replied_later answer.faulted command w.0 old new a b c h w.3)
+
+  -- nothing was
+  pub cuts_nothing : (o : Option Command) (why : Stop) (halt : Halt) (old : State) (said_before said_after : List ℕ) (a b : Counts) → halt ≡ Stopped why → said_after ≡ said_before
+      → CutsLine print sizes halt o old said_before said_after a b
+  cuts_nothing o why halt old said_before said_after a b e said = rw e said
