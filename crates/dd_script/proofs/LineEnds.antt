@@ -1,5 +1,5 @@
 -- Texts have no LF.
-use Rattle.std.proofs.Common.{rules, ◌≡◌, ℕ, zero, suc, ◌+◌, ◌-◌, ◌/◌, ◌%◌, ◌^◌, ◌<◌, ◌≤◌, ◌==◌, Bool, true, false, List, [], ◌∷◌, ◌++◌, length, take, refl, sym, ◌∙◌, ap, subst, arith, Some, None, codes, decimal}
+use Rattle.std.proofs.Common.{rules, ◌≡◌, ℕ, zero, suc, ◌/◌, ◌%◌, ◌^◌, ◌<◌, ◌≤◌, ◌==◌, false, List, [], ◌∷◌, ◌++◌, take, refl, arith, Some, None, codes, decimal}
 use Rattle.std.specs.Prelude.{Option}
 use Rattle.std.specs.List.{slice_index}
 use Rattle.std.specs.Str.Parse.{AllDigits}

@@ -1,24 +1,21 @@
 -- Answers, line by line.
-use Rattle.std.proofs.Common.{◌≡◌, ◌≢◌, ◌⊎◌, inl, inr, ⊎_elim, ℕ, ◌+◌, ◌<◌, ◌≤◌, Bool, true, false, List, [], ◌∷◌, ◌++◌, length, take, refl, sym, ◌∙◌, ap, subst, arith, Some, None}
+use Rattle.std.proofs.Common.{◌≡◌, ℕ, Bool, true, false, List, ◌++◌, take, sym, ◌∙◌, ap, subst, arith, Some, None}
 use Rattle.std.specs.Prelude.{Option}
 use Rattle.dd_block.specs.declared.print.Fp.{Fp}
 use Rattle.dd_rig.specs.declared.device.Dev.{Dev}
 use Rattle.dd_rig.specs.declared.device.Dev.TheVariants as dev
 use Rattle.dd_rig.specs.declared.tallies.Counts.{Counts}
 use Rattle.dd_rig.specs.Counts.{Rose, NeverFalls, calls_of}
-use Rattle.dd_rig.specs.Device.{Device}
 use Rattle.dd_rig.specs.World.{World, say}
 use Rattle.dd_model.specs.State.{Sizes, State}
-use Rattle.dd_script.specs.Command.{Command, read, quit, bad}
-use Rattle.dd_script.specs.Text.{HasNoEnd, ended, fault_text}
-use Rattle.dd_script.specs.Answers.{MayFault}
+use Rattle.dd_script.specs.Command.{Command}
 use Rattle.dd_serve.specs.declared.cache.Cache.{Cache}
 use Rattle.dd_serve.specs.declared.serving.Answer.{Answer}
 use Rattle.dd_serve.specs.Holds.{IsSound, state_of}
 use Rattle.dd_script.specs.declared.reply.Stop.{Stop}
 use Rattle.dd_serve.specs.declared.halt.Halt.{Halt}
 use Rattle.dd_serve.specs.declared.halt.Halt.TheVariants.{Stopped, Output}
-use Rattle.dd_serve.specs.Serving.{Replied, WritesLine, WritesAnswer, AnswersLine, CutsLine}
+use Rattle.dd_serve.specs.Serving.{Replied, WritesAnswer, AnswersLine, CutsLine}
 
 rose_later : (device : Dev) (a b c : Counts) → NeverFalls b c → Rose (calls_of device a).failed_reads (calls_of device b).failed_reads → Rose (calls_of device a).failed_reads (calls_of device c).failed_reads
 rose_later dev.Flash a b c h r = omega (arith, h.flash_reads, r)

@@ -1,7 +1,7 @@
 -- The end of a run: what its status says of what was said.
-use Rattle.std.proofs.Common.{rules, ◌≡◌, ◌≢◌, ◌⊎◌, inl, inr, ⊎_elim, ℕ, zero, suc, ◌+◌, ◌-◌, ◌^◌, ◌<◌, ◌≤◌, ◌==◌, min, Bool, true, false, List, [], ◌∷◌, ◌++◌, length, take, drop, refl, sym, ◌∙◌, ap, subst, arith, Some, None, append_assoc, append-nil, if◌then◌else◌, length-append}
-use Rattle.std.specs.Prelude.{Option, IfSome, codes}
-use Rattle.std.specs.List.{AllByRecursion, flat_map}
+use Rattle.std.proofs.Common.{rules, ◌≡◌, ◌≢◌, inl, inr, ⊎_elim, ℕ, ◌+◌, ◌<◌, ◌≤◌, Bool, true, false, List, [], ◌∷◌, ◌++◌, length, take, drop, refl, sym, ◌∙◌, ap, subst, arith, Some, append_assoc, append-nil, if◌then◌else◌}
+use Rattle.std.specs.Prelude.{Option, IfSome}
+use Rattle.std.specs.List.{flat_map}
 use Rattle.std.specs.Str.{bytes_eq}
 use Rattle.std.proofs.lemmas.Bool.{cases_lt}
 use Rattle.std.proofs.lemmas.List.{take-append-drop}
@@ -20,13 +20,12 @@ use Rattle.dd_script.specs.Command.{Command, read, quit, bad, after}
 use Rattle.dd_script.specs.Script.{Lines, lines_of}
 use Rattle.dd_script.specs.Text.{HasNoEnd, ended, fault_text, stop_text}
 use Rattle.dd_script.specs.Output.{reply_line, output_of}
-use Rattle.dd_script.specs.Answers.{MayFault, AnswersOne, Answered, IsPart, Ends, Answers, AnswersAll, faults_in}
+use Rattle.dd_script.specs.Answers.{MayFault, Answered, IsPart, Ends, Answers, faults_in}
 use Rattle.dd_script.proofs.Lines.{lines_of-lines}
-use Rattle.dd_serve.specs.declared.halt.Halt.{Halt}
 use Rattle.dd_serve.specs.declared.halt.Halt.TheVariants.{Stopped, Output}
 use Rattle.dd_serve.specs.declared.words.Plan.{Plan}
 use Rattle.dd_serve.specs.Causes.{Halts}
-use Rattle.dd_serve.specs.Serving.{Sofar, HasFault, ServedAll, ServedUpTo, HaltsAt}
+use Rattle.dd_serve.specs.Serving.{Sofar, HasFault, ServedAll, ServedUpTo}
 use Rattle.dd_serve.specs.Run.{Serves, SaysAlone, IsLast, IsBounded, last_line, status_of, said_since, lines_since, replay_sizes, replay_start, replay_commands, replay_output}
 use Rattle.dd_serve.proofs.Going.{faults_snoc, flat_snoc, whole_snoc, no_faults, cut_some, cut_part, front_no_end}
 

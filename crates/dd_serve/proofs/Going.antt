@@ -1,6 +1,6 @@
 -- A script that is served line by line: what was said so far.
-use Rattle.std.proofs.Common.{rules, ◌≡◌, ◌≢◌, ◌⊎◌, inl, inr, ⊎_elim, ℕ, zero, suc, ◌+◌, ◌-◌, ◌^◌, ◌<◌, ◌≤◌, ◌==◌, min, Bool, true, false, List, [], ◌∷◌, ◌++◌, length, take, drop, refl, sym, ◌∙◌, ap, subst, arith, Some, None, append_assoc, append-nil, if◌then◌else◌, length-append}
-use Rattle.std.specs.Prelude.{Option, ◌||◌, count_by, codes}
+use Rattle.std.proofs.Common.{◌≡◌, ◌≢◌, ◌⊎◌, inl, inr, ⊎_elim, ℕ, zero, suc, ◌+◌, ◌<◌, ◌≤◌, Bool, true, false, List, [], ◌∷◌, ◌++◌, length, take, drop, refl, sym, ◌∙◌, ap, subst, arith, Some, None, append_assoc, append-nil, if◌then◌else◌, length-append}
+use Rattle.std.specs.Prelude.{Option, ◌||◌}
 use Rattle.std.specs.List.{AllByRecursion, flat_map, filter_map}
 use Rattle.std.specs.Str.{bytes_eq}
 use Rattle.std.proofs.lemmas.Bool.{cases_lt}
@@ -10,19 +10,18 @@ use Rattle.dd_block.specs.declared.print.Fp.{Fp}
 use Rattle.dd_rig.specs.declared.device.Dev.{Dev}
 use Rattle.dd_rig.specs.declared.device.Dev.TheVariants as dev
 use Rattle.dd_rig.specs.declared.tallies.Counts.{Counts}
-use Rattle.dd_rig.specs.Counts.{Rose, NeverFalls, calls_of, plus}
+use Rattle.dd_rig.specs.Counts.{Rose, NeverFalls, plus}
 use Rattle.dd_model.specs.declared.kind.Kind.{Kind}
 use Rattle.dd_model.specs.declared.kind.Kind.TheVariants.{Hit, Join, Miss, Dup, New}
 use Rattle.dd_model.specs.State.{Sizes, State, content}
 use Rattle.dd_model.specs.Step.{read_answer}
 use Rattle.dd_script.specs.declared.line.BadKind.TheVariants as bad_is
-use Rattle.dd_script.specs.declared.reply.Stop.{Stop}
-use Rattle.dd_script.specs.Command.{Command, read, quit, bad, after}
+use Rattle.dd_script.specs.Command.{Command, read, quit, bad}
 use Rattle.dd_script.specs.Script.{through_quit, commands_of, script_lines}
 use Rattle.dd_script.specs.Line.{command_of_line}
 use Rattle.dd_script.specs.Text.{HasNoEnd, ended, fault_text, read_text}
 use Rattle.dd_script.specs.Output.{reply_line}
-use Rattle.dd_script.specs.Answers.{MayFault, AnswersOne, Answered, IsPart, faults_in}
+use Rattle.dd_script.specs.Answers.{MayFault, AnswersOne, Answered, faults_in}
 use Rattle.dd_script.proofs.Runs.{answered-snoc}
 use Rattle.dd_serve.specs.declared.halt.Halt.{Halt}
 use Rattle.dd_serve.specs.declared.halt.Halt.TheVariants.{Stopped, Output}

@@ -1,23 +1,21 @@
 -- A block that isn't linked: it is listed, or is put into the spare slot.
-use Rattle.std.proofs.Common.{◌≡◌, ◌≢◌, ◌⊎◌, inl, inr, ⊎_elim, ℕ, zero, suc, ◌+◌, ◌*◌, ◌-◌, ◌<◌, ◌≤◌, ◌==◌, Bool, true, false, List, [], ◌∷◌, length, take, drop, map, refl, sym, ◌∙◌, ap, subst, arith, Some, None, if◌then◌else◌}
-use Rattle.std.specs.Prelude.{Option, is_some, slice_range, ◌||◌}
+use Rattle.std.proofs.Common.{◌≡◌, ◌≢◌, ◌⊎◌, ⊎_elim, ℕ, ◌+◌, ◌-◌, ◌<◌, ◌≤◌, Bool, true, false, List, [], ◌∷◌, length, take, drop, map, refl, sym, ◌∙◌, ap, subst, arith, Some, None, if◌then◌else◌}
+use Rattle.std.specs.Prelude.{Option, is_some}
 use Rattle.std.specs.List.{AllByRecursion}
 use Rattle.std.specs.Str.{bytes_eq}
-use Rattle.std.proofs.lemmas.Slice.Eq.{bytes_eq-Decides}
 use Rattle.dd_block.specs.declared.print.Fp.{Fp}
 use Rattle.dd_rig.specs.declared.device.Dev.TheVariants.{Flash, Disk}
 use Rattle.dd_rig.specs.Device.{write_bytes, overwrite}
 use Rattle.dd_rig.specs.World.{World, shown, on_device}
-use Rattle.dd_model.specs.declared.kind.Kind.{Kind}
 use Rattle.dd_model.specs.declared.kind.Kind.TheVariants.{Hit, Join, Miss}
-use Rattle.dd_model.specs.State.{State, Entry, content, is_linked, is_known}
+use Rattle.dd_model.specs.State.{content, is_known}
 use Rattle.dd_model.specs.Step.{read_kind}
 use Rattle.dd_record.specs.declared.row.BRow.{BRow}
 use Rattle.dd_record.specs.declared.row.ARow.{ARow}
 use Rattle.dd_serve.specs.declared.cache.Cache.{Cache}
 use Rattle.dd_serve.specs.Rows.{Listed, has_slot, linked_block}
-use Rattle.dd_serve.specs.Holds.{Located, Sound, LinkHolds, Confirms, slot_block, slot_at, block_of, array_of, state_of, sizes_of, IsSound, entry_of}
-use Rattle.dd_serve.proofs.Listed.{number_same, number_other, number_eq, listed_all, clash, has_head, has_weaker}
+use Rattle.dd_serve.specs.Holds.{Located, Sound, LinkHolds, Confirms, slot_block, slot_at, block_of, array_of, state_of, IsSound}
+use Rattle.dd_serve.proofs.Listed.{number_other, listed_all, clash, has_head, has_weaker}
 use Rattle.dd_serve.proofs.Refine.{of, same_block}
 use Rattle.dd_serve.proofs.Locates.{linked_known, known_here, known_nowhere, array_is, not_equal}
 use Rattle.dd_serve.proofs.Slots.{part_before, part_behind, part_here, slot_before}

@@ -1,5 +1,5 @@
 -- A script, line by line.
-use Rattle.std.proofs.Common.{◌≡◌, ◌≢◌, ◌⊎◌, inl, inr, ⊎_elim, ℕ, zero, suc, ◌+◌, ◌-◌, ◌<◌, ◌≤◌, ◌==◌, Bool, true, false, List, [], ◌∷◌, ◌++◌, length, take, refl, sym, ◌∙◌, ap, subst, arith, Some, None, if◌then◌else◌, length-append}
+use Rattle.std.proofs.Common.{◌≡◌, ◌≢◌, inl, inr, ⊎_elim, ℕ, zero, suc, ◌+◌, ◌<◌, ◌≤◌, ◌==◌, Bool, true, false, List, [], ◌∷◌, ◌++◌, length, take, refl, sym, ◌∙◌, ap, subst, arith, Some, None, if◌then◌else◌}
 use Rattle.std.specs.Prelude.{Option, ◌||◌}
 use Rattle.std.specs.List.{filter_map, cons_option, list_any}
 use Rattle.dd_script.specs.declared.line.Line.{Line}
@@ -8,7 +8,7 @@ use Rattle.dd_script.specs.Command.{Command, read, quit, bad}
 use Rattle.dd_script.specs.Line.{command_of_line, told}
 use Rattle.dd_script.specs.Script.{Lines, lines_of, onto_lines, onto_first, last_line, script_lines, through_quit, commands_of, is_quit, has_quit, EndsWithin}
 use Rattle.dd_script.proofs.Parsing.{command_of_line-take}
-use Rattle.dd_serve.specs.Reading.{first_line, after_line, has_end, NextLine, LineBurns, EndsInside, Spends, fronted, quits, Bounds, BurnsUnlessQuit}
+use Rattle.dd_serve.specs.Reading.{first_line, after_line, has_end, NextLine, EndsInside, Spends, fronted, quits, Bounds, BurnsUnlessQuit}
 
 -- where no line ends
 pub record Unended (bytes : List ℕ) : Type 0 where

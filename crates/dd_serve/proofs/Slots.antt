@@ -1,5 +1,5 @@
 -- A slot that is written, and the others.
-use Rattle.std.proofs.Common.{◌≡◌, ◌⊎◌, inl, inr, ⊎_elim, ℕ, zero, suc, ◌+◌, ◌*◌, ◌-◌, ◌<◌, ◌≤◌, List, [], ◌∷◌, length, take, drop, refl, sym, ◌∙◌, ap, arith}
+use Rattle.std.proofs.Common.{◌≡◌, ℕ, zero, suc, ◌+◌, ◌*◌, ◌<◌, ◌≤◌, List, [], ◌∷◌, length, take, drop, refl, ap, arith}
 use Rattle.dd_rig.specs.Device.{overwrite}
 
 front_kept : (n at : ℕ) (bytes old : List ℕ) → n ≤ at → take n (overwrite at bytes old) ≡ take n old

@@ -1,5 +1,5 @@
 -- How a line is answered, and what was said so far.
-use Rattle.std.specs.Prelude.{◌≡◌, ◌≢◌, ◌⊎◌, ◌<◌, ◌≤◌, ◌+◌, ℕ, Bool, true, false, List, [], ◌++◌, length, take, drop, Option, Some, None}
+use Rattle.std.specs.Prelude.{◌≡◌, ◌≢◌, ◌<◌, ◌≤◌, ◌+◌, ℕ, Bool, true, false, List, [], ◌++◌, take, Option, Some, None}
 use Rattle.std.specs.List.{AllByRecursion, flat_map}
 use Rattle.dd_block.specs.declared.print.Fp.{Fp}
 use Rattle.dd_rig.specs.declared.device.Dev.{Dev}
@@ -7,7 +7,7 @@ use Rattle.dd_rig.specs.declared.device.Dev.TheVariants as dev
 use Rattle.dd_rig.specs.declared.tallies.Counts.{Counts}
 use Rattle.dd_rig.specs.Counts.{Rose, plus, calls_of}
 use Rattle.dd_model.specs.State.{Sizes, State}
-use Rattle.dd_script.specs.Command.{Command, read, quit, bad, after}
+use Rattle.dd_script.specs.Command.{Command, after}
 use Rattle.dd_script.specs.Text.{HasNoEnd, ended, fault_text}
 use Rattle.dd_script.specs.Output.{reply_line}
 use Rattle.dd_script.specs.Answers.{MayFault, Answered, IsPart, faults_in}

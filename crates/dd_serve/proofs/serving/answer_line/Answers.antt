@@ -1,4 +1,4 @@
-use Rattle.std.proofs.Common.{◌≡◌, ◌++◌, List, ℕ, take, ap, ◌∙◌, sym, Some}
+use Rattle.std.proofs.Common.{◌≡◌, ◌++◌, List, ℕ, take, ap, ◌∙◌}
 use Rattle.dd_rig.specs.World.{World}
 use Rattle.dd_script.specs.Line.{told}
 use Rattle.dd_serve.specs.Holds.{state_of, sizes_of}

@@ -1,4 +1,4 @@
-use Rattle.std.proofs.Common.{◌≡◌, ◌≤◌, ℕ, List, length, Some, None, subst, sym, arith}
+use Rattle.std.proofs.Common.{◌≤◌, ℕ, List, length, subst, sym, arith}
 use Rattle.dd_script.specs.Script.{EndsWithin}
 use Rattle.dd_serve.specs.declared.halt.Halt.{Halt}
 use Rattle.dd_serve.specs.Causes.{ScriptHalts}

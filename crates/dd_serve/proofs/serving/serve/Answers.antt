@@ -1,7 +1,5 @@
-use Rattle.std.proofs.Common.{rules, ◌≡◌, ◌≢◌, ◌≤◌, ◌+◌, ◌<◌, ◌^◌, ℕ, List, [], length, Some, None, subst, sym, ◌∙◌, ap, arith, true, false, Bool}
+use Rattle.std.proofs.Common.{◌≡◌, ℕ, List, [], subst, sym, ◌∙◌, ap, arith, false, Bool}
 use Rattle.std.specs.Prelude.{Option, ◌||◌}
-use Rattle.dd_rig.specs.World.{World}
-use Rattle.dd_rig.specs.declared.tallies.Counts.{Counts}
 use Rattle.dd_model.specs.State.{Sizes, State}
 use Rattle.dd_script.specs.Command.{Command}
 use Rattle.dd_script.specs.Line.{told}
@@ -9,9 +7,9 @@ use Rattle.dd_script.specs.Script.{commands_of, EndsWithin}
 use Rattle.dd_serve.specs.declared.halt.Halt.{Halt}
 use Rattle.dd_serve.specs.Holds.{state_of, sizes_of}
 use Rattle.dd_serve.specs.Reading.{left, fuel, fronted, quits}
-use Rattle.dd_serve.specs.Serving.{AnswersLine, CutsLine, ServedAll, ServedUpTo}
+use Rattle.dd_serve.specs.Serving.{AnswersLine, CutsLine, ServedUpTo}
 use Rattle.dd_serve.proofs.Causes.{handed_on, any_error, falls_trans}
-use Rattle.dd_serve.proofs.Script.{bounds_quit, bounds_other, burns_other}
+use Rattle.dd_serve.proofs.Script.{bounds_other, burns_other}
 use Rattle.dd_serve.proofs.Going.{Going, going_line, going_all, halts_between, halts_command, commands_some, after_front, front_quit, front_other}
 use Rattle.dd_serve.proofs.serving.serve.Goals as goal
 

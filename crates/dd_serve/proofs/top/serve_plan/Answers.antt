@@ -1,16 +1,14 @@
-use Rattle.std.proofs.Common.{◌≡◌, ◌≢◌, ℕ, List, length, Some, None, Ok, Err, true, false, Bool, subst, sym, refl, ◌∙◌, ap}
+use Rattle.std.proofs.Common.{◌≡◌, ℕ, List, true, false, Bool, subst, sym, refl, ◌∙◌}
 use mir.Val.{bool_byte}
-use Rattle.std.specs.Prelude.{Result, IfOk, IfErr, OnOk}
 use Rattle.dd_rig.specs.declared.tallies.Counts.{Counts}
 use Rattle.dd_rig.specs.Counts.{NeverFalls}
 use Rattle.dd_rig.specs.World.{World}
 use Rattle.dd_script.specs.declared.reply.Stop.TheVariants as stop
 use Rattle.dd_script.specs.Text.{stop_text}
-use Rattle.dd_serve.specs.declared.halt.Halt.{Halt}
-use Rattle.dd_serve.specs.declared.halt.Halt.TheVariants.{Stopped, Output}
+use Rattle.dd_serve.specs.declared.halt.Halt.TheVariants.{Stopped}
 use Rattle.dd_serve.specs.Causes.{Halts}
 use Rattle.dd_serve.specs.Serving.{ServedAll, ServedUpTo}
-use Rattle.dd_serve.specs.Run.{Serves, SaysAlone, IsBounded, status_of, replay_sizes, replay_start, replay_commands, replay_blocks}
+use Rattle.dd_serve.specs.Run.{Serves, SaysAlone, IsBounded, replay_sizes, replay_start, replay_commands, replay_blocks}
 use Rattle.dd_serve.proofs.Causes.{falls_self}
 use Rattle.dd_serve.proofs.Going.{commands_some}
 use Rattle.dd_serve.proofs.Starts.{halts_by}

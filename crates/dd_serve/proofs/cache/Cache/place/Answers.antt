@@ -1,11 +1,11 @@
-use Rattle.std.proofs.Common.{◌≡◌, ◌≤◌, ◌+◌, ap, sym, ◌∙◌, refl, subst, ℕ, List, length, arith, Some, None}
+use Rattle.std.proofs.Common.{◌≡◌, ◌≤◌, ◌+◌, ap, sym, ◌∙◌, subst, ℕ, List, length, arith, Some, None}
 use Rattle.dd_block.specs.declared.print.Fp.{Fp}
 use Rattle.dd_rig.specs.declared.device.Dev.TheVariants.{Flash}
 use Rattle.dd_rig.specs.Device.{write_bytes}
 use Rattle.dd_rig.specs.World.{World, shown, on_device}
 use Rattle.dd_model.specs.declared.kind.Kind.TheVariants.{Join, Miss}
 use Rattle.dd_record.specs.declared.row.BRow.{BRow}
-use Rattle.dd_serve.specs.Holds.{Located, Confirms, slot_block, slot_at, block_of}
+use Rattle.dd_serve.specs.Holds.{Located, Confirms, slot_at, block_of}
 use Rattle.dd_serve.proofs.Places.{joins, misses}
 use Rattle.dd_serve.proofs.Slots.{slot_before}
 use Rattle.dd_serve.proofs.cache.Cache.place.Goals as goal

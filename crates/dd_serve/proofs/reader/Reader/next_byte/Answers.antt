@@ -1,4 +1,4 @@
-use Rattle.std.proofs.Common.{◌≡◌, ◌<◌, ◌≤◌, ◌++◌, [], ℕ, List, length, sym, ◌∙◌, ap, arith, if◌then◌else◌}
+use Rattle.std.proofs.Common.{◌<◌, ◌++◌, [], ℕ, List, sym, ◌∙◌, ap, arith, if◌then◌else◌}
 use Rattle.dd_serve.specs.Reading.{Held, left}
 use Rattle.dd_serve.proofs.Reading.{range_step}
 use Rattle.dd_serve.proofs.reader.Reader.next_byte.Goals as goal

@@ -1,0 +1,4 @@
+pub mod Faults
+pub mod Gates
+pub mod Regions
+pub mod Sitting
