@@ -1,16 +1,29 @@
 -- Answers, line by line.
-use Rattle.std.proofs.Common.{◌≡◌, ℕ, Bool, true, false, List, ◌++◌, take, sym, ◌∙◌, ap, subst, arith, Some, None}
-use Rattle.std.specs.Prelude.{Option}
+use Rattle.std.proofs.Common.{[], ◌∷◌, ◌≡◌, ℕ, Bool, true, false, List, ◌++◌, take, sym, ◌∙◌, ap, subst, arith, Some, None}
+use Rattle.std.specs.Prelude.{Option, option_map}
 use Rattle.dd_block.specs.declared.print.Fp.{Fp}
 use Rattle.dd_rig.specs.declared.device.Dev.{Dev}
 use Rattle.dd_rig.specs.declared.device.Dev.TheVariants as dev
+use Rattle.dd_rig.specs.declared.tallies.Calls.{Calls}
 use Rattle.dd_rig.specs.declared.tallies.Counts.{Counts}
 use Rattle.dd_rig.specs.Counts.{Rose, NeverFalls, calls_of}
 use Rattle.dd_rig.specs.World.{World, say}
+use Rattle.dd_model.specs.declared.kind.Kind.{Kind}
+use Rattle.dd_model.specs.declared.kind.Kind.TheVariants.{Hit, Join, Miss, Dup, New}
+use Rattle.dd_model.specs.declared.done.Done.{Done}
+use Rattle.dd_model.specs.Step.{Tells}
+use Rattle.dd_model.specs.Step as step
+use Rattle.dd_record.specs.declared.row.BRow.{BRow}
+use Rattle.dd_script.specs.Output.{read_line}
 use Rattle.dd_model.specs.State.{Sizes, State}
 use Rattle.dd_script.specs.Command.{Command}
+use Rattle.dd_script.specs.declared.line.BadKind.{BadKind}
+use Rattle.dd_script.specs.declared.line.BadKind.TheVariants as bad_is
+use Rattle.dd_script.specs.Text.{read_text, bye_text, bad_text}
 use Rattle.dd_serve.specs.declared.cache.Cache.{Cache}
 use Rattle.dd_serve.specs.declared.serving.Answer.{Answer}
+use Rattle.dd_serve.specs.Asks.{Asks, slots_for, blocks_for, hits_in, loads_in}
+use Rattle.dd_serve.specs.Run.{IsIdle}
 use Rattle.dd_serve.specs.Holds.{IsSound, state_of}
 use Rattle.dd_script.specs.declared.reply.Stop.{Stop}
 use Rattle.dd_serve.specs.declared.halt.Halt.{Halt}
@@ -21,6 +34,42 @@ rose_later : (device : Dev) (a b c : Counts) → NeverFalls b c → Rose (calls_
 rose_later dev.Flash a b c h r = omega (arith, h.flash_reads, r)
 rose_later dev.Disk a b c h r = omega (arith, h.disk_reads, r)
 
+-- what the code answers is the line of the definition
+pub read_line_is : (print : List ℕ → Fp) (answer : step.Answer) (done : Done) (block content : List ℕ) → Tells print done answer → block ≡ content
+    → read_text done.kind block done.cut.out (option_map (λ (row : BRow). row.fp) done.cut.drop) ≡ read_line print content answer
+read_line_is print answer done block content told e =
+    ap (λ (k : Kind). read_text k block done.cut.out (option_map (λ (row : BRow). row.fp) done.cut.drop)) told.kind
+    ∙ ap (λ (b : List ℕ). read_text answer.kind b done.cut.out (option_map (λ (row : BRow). row.fp) done.cut.drop)) e
+    ∙ ap (λ (o : Option ℕ). read_text answer.kind content o (option_map (λ (row : BRow). row.fp) done.cut.drop)) told.out
+    ∙ ap (λ (d : Option Fp). read_text answer.kind content answer.out d) told.drop
+
+-- a line tells how often the devices were asked for it
+pub asks_read : (told kind : Kind) (block : List ℕ) (out : Option ℕ) (drop : Option Fp) (a b : Counts) → told ≡ kind → Asks (slots_for told) (blocks_for told) a b
+    → Asks (hits_in (read_text kind block out drop ∷ [])) (loads_in (read_text kind block out drop ∷ [])) a b
+unfolding read_text
+asks_read told Hit block out drop a b e h = subst (λ (k : Kind). Asks (slots_for k) (blocks_for k) a b) e h
+asks_read told Join block out drop a b e h = subst (λ (k : Kind). Asks (slots_for k) (blocks_for k) a b) e h
+asks_read told Miss block out drop a b e h = subst (λ (k : Kind). Asks (slots_for k) (blocks_for k) a b) e h
+asks_read told Dup block out drop a b e h = subst (λ (k : Kind). Asks (slots_for k) (blocks_for k) a b) e h
+asks_read told New block out drop a b e h = subst (λ (k : Kind). Asks (slots_for k) (blocks_for k) a b) e h
+
+asks_none : (a : Counts) → Asks 0 0 a a
+asks_none a = (omega arith, omega arith)
+
+-- a line that no read answers
+pub asks_bye : (count : ℕ) (a : Counts) → Asks (hits_in (bye_text count ∷ [])) (loads_in (bye_text count ∷ [])) a a
+asks_bye count a = asks_none a
+
+pub asks_bad : (kind : BadKind) (a : Counts) → Asks (hits_in (bad_text kind ∷ [])) (loads_in (bad_text kind ∷ [])) a a
+asks_bad bad_is.Long a = asks_none a
+asks_bad bad_is.Word a = asks_none a
+asks_bad bad_is.Address a = asks_none a
+asks_bad bad_is.Rest a = asks_none a
+
+-- what is said asks no device
+asks_idle : (slots blocks : ℕ) (a b c : Counts) → IsIdle b c → Asks slots blocks a b → Asks slots blocks a c
+asks_idle slots blocks a b c h k = (omega (arith, k.0, ap (λ (d : Calls). d.reads) h.0), omega (arith, k.1, ap (λ (d : Calls). d.reads) h.1))
+
 -- what is said changes neither device
 pub sound_said : (print : List ℕ → Fp) (cache : Cache) (piece : List ℕ) (old new : World) → new ≡ say piece old → IsSound print cache old → IsSound print cache new
 sound_said print cache piece old new e h = let P : World → Type 0 = λ w. IsSound print cache w in subst P (sym e) h
@@ -29,25 +78,25 @@ pub state_said : (cache : Cache) (piece : List ℕ) (old new : World) → new �
 state_said cache piece old new e = ap (state_of cache) e
 
 module _ (print : List ℕ → Fp) (sizes : Sizes) where
-  replied_later : (faulted : Bool) (command : Command) (line : List ℕ) (old new : State) (a b c : Counts) → NeverFalls b c → Replied print sizes faulted command line old new a b → Replied print sizes faulted command line old new a c
-  replied_later false command line old new a b c h r = r
-  replied_later true command line old new a b c h r = (r.0, r.1, r.2, r.3, rose_later r.0 a b c h r.4)
+  replied_later : (faulted : Bool) (command : Command) (line : List ℕ) (old new : State) (a b c : Counts) → NeverFalls b c → IsIdle b c → Replied print sizes faulted command line old new a b → Replied print sizes faulted command line old new a c
+  replied_later false command line old new a b c h idle r = (r.0, r.1, asks_idle _ _ a b c idle r.2)
+  replied_later true command line old new a b c h idle r = (r.0, r.1, r.2, r.3, rose_later r.0 a b c h r.4)
 
   -- the line that was written was said
   pub answers_written : (o : Option Command) (answer : Answer) (text : List ℕ) (old new later : State) (said_before said_after : List ℕ) (a b c : Counts)
-      → WritesAnswer print sizes o (Some answer) text old new a b → later ≡ new → said_after ≡ said_before ++ take answer.size text → NeverFalls b c
+      → WritesAnswer print sizes o (Some answer) text old new a b → later ≡ new → said_after ≡ said_before ++ take answer.size text → NeverFalls b c → IsIdle b c
       → AnswersLine print sizes o answer.faulted old later said_before said_after a c
-  answers_written None answer text old new later said_before said_after a b c w same said h = absurd w
-  answers_written (Some command) answer text old new later said_before said_after a b c w same said h =
-      (w.0, w.1, said ∙ ap (λ (l : List ℕ). said_before ++ l) w.2, subst (λ (s : State). Replied print sizes answer.faulted command w.0 old s a c) (sym same) (replied_later answer.faulted command w.0 old new a b c h w.3))
+  answers_written None answer text old new later said_before said_after a b c w same said h idle = absurd w
+  answers_written (Some command) answer text old new later said_before said_after a b c w same said h idle =
+      (w.0, w.1, said ∙ ap (λ (l : List ℕ). said_before ++ l) w.2, subst (λ (s : State). Replied print sizes answer.faulted command w.0 old s a c) (sym same) (replied_later answer.faulted command w.0 old new a b c h idle w.3))
 
   -- a part of it was
   pub cuts_written : (o : Option Command) (answer : Answer) (text : List ℕ) (old new : State) (said_before said_after : List ℕ) (n : ℕ) (a b c : Counts)
-      → WritesAnswer print sizes o (Some answer) text old new a b → said_after ≡ said_before ++ take n (take answer.size text) → NeverFalls b c
+      → WritesAnswer print sizes o (Some answer) text old new a b → said_after ≡ said_before ++ take n (take answer.size text) → NeverFalls b c → IsIdle b c
       → CutsLine print sizes Output o old said_before said_after a c
-  cuts_written None answer text old new said_before said_after n a b c w said h = absurd w
-  cuts_written (Some command) answer text old new said_before said_after n a b c w said h =
-      (w.0, n, w.1, said ∙ ap (λ (l : List ℕ). said_before ++ take n l) w.2, answer.faulted, new, replied_later answer.faulted command w.0 old new a b c h w.3)
+  cuts_written None answer text old new said_before said_after n a b c w said h idle = absurd w
+  cuts_written (Some command) answer text old new said_before said_after n a b c w said h idle =
+      (w.0, n, w.1, said ∙ ap (λ (l : List ℕ). said_before ++ take n l) w.2, answer.faulted, new, replied_later answer.faulted command w.0 old new a b c h idle w.3)
 
   -- nothing was
   pub cuts_nothing : (o : Option Command) (why : Stop) (halt : Halt) (old : State) (said_before said_after : List ℕ) (a b : Counts) → halt ≡ Stopped why → said_after ≡ said_before

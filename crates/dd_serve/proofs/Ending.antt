@@ -10,6 +10,7 @@ use Rattle.std.proofs.Math.Seq.{drop-append_seam}
 use Rattle.dd_block.specs.declared.print.Fp.{Fp}
 use Rattle.dd_rig.specs.declared.device.Dev.{Dev}
 use Rattle.dd_rig.specs.declared.device.Dev.TheVariants as dev
+use Rattle.dd_rig.specs.declared.tallies.Calls.{Calls}
 use Rattle.dd_rig.specs.declared.tallies.Counts.{Counts}
 use Rattle.dd_rig.specs.Counts.{Rose, NeverFalls, IsStill, plus}
 use Rattle.dd_rig.specs.World.{World}
@@ -26,8 +27,9 @@ use Rattle.dd_serve.specs.declared.halt.Halt.TheVariants.{Stopped, Output}
 use Rattle.dd_serve.specs.declared.words.Plan.{Plan}
 use Rattle.dd_serve.specs.Causes.{Halts}
 use Rattle.dd_serve.specs.Serving.{Sofar, HasFault, ServedAll, ServedUpTo}
-use Rattle.dd_serve.specs.Run.{Serves, SaysAlone, IsLast, IsBounded, last_line, status_of, said_since, lines_since, replay_sizes, replay_start, replay_commands, replay_output}
-use Rattle.dd_serve.proofs.Going.{faults_snoc, flat_snoc, whole_snoc, no_faults, cut_some, cut_part, front_no_end}
+use Rattle.dd_serve.specs.Asks.{hits_in, loads_in}
+use Rattle.dd_serve.specs.Run.{IsIdle, Serves, SaysAlone, IsLast, IsBounded, last_line, status_of, said_since, lines_since, replay_sizes, replay_start, replay_commands, replay_output}
+use Rattle.dd_serve.proofs.Going.{asking, hits_snoc, faults_snoc, flat_snoc, whole_snoc, no_faults, cut_some, cut_part, front_no_end}
 
 -- what was said since
 since_is : (old new more : List ℕ) → new ≡ old ++ more → drop (length old) new ≡ more
@@ -110,6 +112,14 @@ module _ (print : List ℕ → Fp) (plan : Plan) (script : List ℕ) (old : Worl
   disk_so : (new : World) (end : Counts) (s : SofarAt new end) → plus before.disk.failed_reads (faults_in dev.Disk (lines_since old new)) ≤ end.disk.failed_reads
   disk_so new end s = subst (λ (l : List (List ℕ)). plus before.disk.failed_reads (faults_in dev.Disk l) ≤ end.disk.failed_reads) (sym (ap (λ (l : Lines). l.whole) (lines_are new end s))) s.disk_faults
 
+  hits_so : (new : World) (end : Counts) (s : SofarAt new end) → plus before.flash.reads (hits_in (lines_since old new)) ≤ end.flash.reads
+  hits_so new end s = subst (λ (l : List (List ℕ)). plus before.flash.reads (hits_in l) ≤ end.flash.reads) (sym (ap (λ (l : Lines). l.whole) (lines_are new end s))) s.hits
+
+  loads_so : (faulted : Bool) (new : World) (end : Counts) (s : SofarAt new end) → HasFault faulted s.lines → end.disk.reads ≤ before.disk.reads + asking s.lines → status_for faulted ≡ 0
+      → end.disk.reads ≤ before.disk.reads + loads_in (lines_since old new)
+  loads_so false new end s fault loads zero_is = subst (λ (l : List (List ℕ)). end.disk.reads ≤ before.disk.reads + loads_in l) (sym (ap (λ (l : Lines). l.whole) (lines_are new end s))) (omega (arith, loads, fault.0, fault.1))
+  loads_so true new end s fault loads zero_is = absurd (omega arith)
+
   exact_so : (faulted : Bool) (new : World) (end : Counts) (s : SofarAt new end) → s.left ≡ [] → s.rest ≡ [] → HasFault faulted s.lines → status_for faulted ≡ 0 → said_since old new ≡ replay_output print plan old script
   exact_so false new end s none nothing fault zero_is =
       since_lines new end s ∙ ap (λ (l : List ℕ). flat_map ended s.lines ++ l) nothing ∙ append-nil (flat_map ended s.lines)
@@ -146,6 +156,8 @@ module _ (print : List ℕ → Fp) (plan : Plan) (script : List ℕ) (old : Worl
         fault = fault_so faulted new end s served.fault;
         flash_faults = flash_so new end s;
         disk_faults = disk_so new end s;
+        hits = hits_so new end s;
+        loads = loads_so faulted new end s served.fault served.loads;
         last = λ still. no_last faulted (lines_since old new);
         bounded = λ small. bounded;
         long = λ e. absurd (status_small faulted e);
@@ -164,6 +176,8 @@ module _ (print : List ℕ → Fp) (plan : Plan) (script : List ℕ) (old : Worl
         fault = λ e. absurd (omega arith);
         flash_faults = flash_so new end s;
         disk_faults = disk_so new end s;
+        hits = hits_so new end s;
+        loads = λ e. absurd (omega arith);
         last = λ still. tt;
         bounded = λ small. absurd (omega arith);
         long = λ e. absurd (omega arith);
@@ -209,9 +223,16 @@ module _ (print : List ℕ → Fp) (plan : Plan) (script : List ℕ) (old : Worl
       plus_none : (n : ℕ) → n + 0 ≡ n
       plus_none n = omega arith
 
+  hits_stop : (why : Stop) → hits_in (stop_text why ∷ []) ≡ 0
+  hits_stop stop.Flash = refl
+  hits_stop stop.Disk = refl
+  hits_stop stop.Script = refl
+  hits_stop stop.Length = refl
+  hits_stop stop.Memory = refl
+
   -- the line of the status was said whole
-  stops_whole : (why : Stop) (middle new : World) (between end : Counts) → NeverFalls between end → StopsWith why middle between → new.said ≡ middle.said ++ ended (stop_text why) → Serves print plan (status_of why) script old new before end
-  stops_whole why middle new between end later stops said =
+  stops_whole : (why : Stop) (middle new : World) (between end : Counts) → NeverFalls between end → IsIdle between end → StopsWith why middle between → new.said ≡ middle.said ++ ended (stop_text why) → Serves print plan (status_of why) script old new before end
+  stops_whole why middle new between end later idle stops said =
       let s = stops.sofar in
       let line : List ℕ = stop_text why in
       let whole : new.said ≡ old.said ++ flat_map ended (s.lines ++ line ∷ []) =
@@ -236,15 +257,17 @@ module _ (print : List ℕ → Fp) (plan : Plan) (script : List ℕ) (old : Worl
         fault = λ e. absurd (omega (arith, stop_status why, e));
         flash_faults = omega (arith, s.flash_faults, later.flash_reads, ap (faults_in dev.Flash) lines, faults_stop dev.Flash why s.lines);
         disk_faults = omega (arith, s.disk_faults, later.disk_reads, ap (faults_in dev.Disk) lines, faults_stop dev.Disk why s.lines);
+        hits = omega (arith, s.hits, ap (λ (d : Calls). d.reads) idle.0, ap hits_in lines, hits_snoc s.lines line, hits_stop why);
+        loads = λ e. absurd (omega (arith, stop_status why, e));
         last = λ still. subst (λ (o : Option (List ℕ)). IfSome o (λ l. IsLast l (lines_since old new))) (sym stops.last) (s.lines, lines);
         bounded = λ small. absurd (omega (arith, stop_status why));
         long = stops.long;
       }
 
   -- a part of it was
-  stops_part : (why : Stop) (middle new : World) (between end : Counts) (n : ℕ) → NeverFalls before between → NeverFalls between end → StopsWith why middle between → Rose between.failed_emits end.failed_emits
+  stops_part : (why : Stop) (middle new : World) (between end : Counts) (n : ℕ) → NeverFalls before between → NeverFalls between end → IsIdle between end → StopsWith why middle between → Rose between.failed_emits end.failed_emits
       → new.said ≡ middle.said ++ take n (ended (stop_text why)) → n ≤ length (stop_text why) → Serves print plan (status_of why) script old new before end
-  stops_part why middle new between end n earlier later stops rose said short =
+  stops_part why middle new between end n earlier later idle stops rose said short =
       let line : List ℕ = stop_text why in
       let first = stops.sofar in
       let s : SofarAt new end = record {
@@ -260,6 +283,7 @@ module _ (print : List ℕ → Fp) (plan : Plan) (script : List ℕ) (old : Worl
             ∙ ap (λ (l : List ℕ). l ++ take n line) (first.said ∙ ap (λ (l : List ℕ). old.said ++ flat_map ended first.lines ++ l) stops.nothing_more ∙ append-nil (old.said ++ flat_map ended first.lines));
         flash_faults = omega (arith, first.flash_faults, later.flash_reads);
         disk_faults = omega (arith, first.disk_faults, later.disk_reads);
+        hits = omega (arith, first.hits, ap (λ (d : Calls). d.reads) idle.0);
       } in
       record {
         said = goes_on new end s;
@@ -270,6 +294,8 @@ module _ (print : List ℕ → Fp) (plan : Plan) (script : List ℕ) (old : Worl
         fault = λ e. absurd (omega (arith, stop_status why, e));
         flash_faults = flash_so new end s;
         disk_faults = disk_so new end s;
+        hits = hits_so new end s;
+        loads = λ e. absurd (omega (arith, stop_status why, e));
         last = λ still. absurd (not_both _ _ _ _ earlier.emits (omega arith) still rose);
         bounded = λ small. absurd (omega (arith, stop_status why));
         long = stops.long;
@@ -280,12 +306,12 @@ module _ (print : List ℕ → Fp) (plan : Plan) (script : List ℕ) (old : Worl
       may_stop state (command ∷ left) line is some rest more e = inr (line, more, inr (inr is), e)
 
   -- the line of the status was said, or an emit failed
-  pub stops_alone : (why : Stop) (middle new : World) (between end : Counts) → NeverFalls before between → NeverFalls between end → StopsWith why middle between → SaysAlone (stop_text why) between end middle new
+  pub stops_alone : (why : Stop) (middle new : World) (between end : Counts) → NeverFalls before between → NeverFalls between end → IsIdle between end → StopsWith why middle between → SaysAlone (stop_text why) between end middle new
       → Serves print plan (status_of why) script old new before end
-  stops_alone why middle new between end earlier later stops (inl said) = stops_whole why middle new between end later stops said
-  stops_alone why middle new between end earlier later stops (inr (rose, n, said)) = ⊎_elim
-      (λ (long : length (stop_text why) < n). stops_whole why middle new between end later stops (said ∙ ap (λ (l : List ℕ). middle.said ++ l) (cut_some (stop_text why) n long)))
-      (λ (short : n ≤ length (stop_text why)). stops_part why middle new between end n earlier later stops rose said short)
+  stops_alone why middle new between end earlier later idle stops (inl said) = stops_whole why middle new between end later idle stops said
+  stops_alone why middle new between end earlier later idle stops (inr (rose, n, said)) = ⊎_elim
+      (λ (long : length (stop_text why) < n). stops_whole why middle new between end later idle stops (said ∙ ap (λ (l : List ℕ). middle.said ++ l) (cut_some (stop_text why) n long)))
+      (λ (short : n ≤ length (stop_text why)). stops_part why middle new between end n earlier later idle stops rose said short)
       (cases_lt (length (stop_text why)) n)
 
   halts_last : (why : Stop) (long : Type 0) (a b : Counts) (m n : ℕ) → Halts long (Stopped why) a b m n → last_line (status_of why) ≡ Some (stop_text why)
@@ -328,6 +354,7 @@ module _ (print : List ℕ → Fp) (plan : Plan) (script : List ℕ) (old : Worl
       said = sym (append-nil (old.said ++ []) ∙ append-nil old.said);
       flash_faults = omega arith;
       disk_faults = omega arith;
+      hits = omega arith;
     };
     some = some;
     nothing_more = refl;

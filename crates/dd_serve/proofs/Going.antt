@@ -23,6 +23,8 @@ use Rattle.dd_script.specs.Text.{HasNoEnd, ended, fault_text, read_text}
 use Rattle.dd_script.specs.Output.{reply_line}
 use Rattle.dd_script.specs.Answers.{MayFault, AnswersOne, Answered, faults_in}
 use Rattle.dd_script.proofs.Runs.{answered-snoc}
+use Rattle.dd_script.specs.declared.reply.Stop.{Stop}
+use Rattle.dd_serve.specs.Asks.{Asks, is_hit, is_load, hits_in, loads_in}
 use Rattle.dd_serve.specs.declared.halt.Halt.{Halt}
 use Rattle.dd_serve.specs.declared.halt.Halt.TheVariants.{Stopped, Output}
 use Rattle.dd_serve.specs.Reading.{fronted, quits}
@@ -108,6 +110,21 @@ one_more_read a b c n h r = omega (arith, h, r)
 no_more_reads : (a b c n m : ℕ) → m ≡ n + 0 → plus a n ≤ b → b ≤ c → plus a m ≤ c
 no_more_reads a b c n m e h r = omega (arith, e, h, r)
 
+pub hits_snoc : (lines : List (List ℕ)) (line : List ℕ) → hits_in (lines ++ line ∷ []) ≡ hits_in lines + hits_in (line ∷ [])
+hits_snoc lines line = sum_by-append (λ l. if is_hit l then 1 else 0) lines (line ∷ [])
+
+loads_snoc : (lines : List (List ℕ)) (line : List ℕ) → loads_in (lines ++ line ∷ []) ≡ loads_in lines + loads_in (line ∷ [])
+loads_snoc lines line = sum_by-append (λ l. if is_load l then 1 else 0) lines (line ∷ [])
+
+-- a fault line tells no hit
+no_hit : (device : Dev) (line : List ℕ) → line ≡ fault_text device → hits_in (line ∷ []) ≡ 0
+no_hit dev.Flash line e = ap (λ (l : List ℕ). hits_in (l ∷ [])) e
+no_hit dev.Disk line e = ap (λ (l : List ℕ). hits_in (l ∷ [])) e
+
+-- how many of the lines may have asked the disk
+abbrev pub asking : List (List ℕ) → ℕ
+asking lines = loads_in lines + (faults_in dev.Flash lines + faults_in dev.Disk lines)
+
 -- whether nothing but a quit is left
 abbrev pub after_front : Option Command → List Command → List Command
 after_front None left = left
@@ -141,10 +158,11 @@ module _ (print : List ℕ → Fp) (sizes : Sizes) (start : State) (commands : L
     pub flash_faults : plus before.flash.failed_reads (faults_in dev.Flash lines) ≤ end.flash.failed_reads
     pub disk_faults : plus before.disk.failed_reads (faults_in dev.Disk lines) ≤ end.disk.failed_reads
     pub fault : HasFault faulted lines
+    pub asks : Asks (hits_in lines) (asking lines) before end
 
   -- the counts go on
-  pub going_later : (faulted : Bool) (said_after : List ℕ) (a b : Counts) (state : State) (left : List Command) → NeverFalls a b → Going faulted said_after a state left → Going faulted said_after b state left
-  going_later faulted said_after a b state left h g = record {
+  pub going_later : (faulted : Bool) (said_after : List ℕ) (a b : Counts) (state : State) (left : List Command) → NeverFalls a b → Asks 0 0 a b → Going faulted said_after a state left → Going faulted said_after b state left
+  going_later faulted said_after a b state left h none g = record {
     lines = g.lines;
     answered = g.answered;
     whole = g.whole;
@@ -152,6 +170,7 @@ module _ (print : List ℕ → Fp) (sizes : Sizes) (start : State) (commands : L
     flash_faults = omega (arith, g.flash_faults, h.flash_reads);
     disk_faults = omega (arith, g.disk_faults, h.disk_reads);
     fault = g.fault;
+    asks = (omega (arith, g.asks.0, none.0), omega (arith, g.asks.1, none.1));
   }
 
   one_of : (faulted : Bool) (command : Command) (line : List ℕ) (old new : State) (a b : Counts) → Replied print sizes faulted command line old new a b → AnswersOne print sizes old command line new
@@ -195,10 +214,19 @@ module _ (print : List ℕ → Fp) (sizes : Sizes) (start : State) (commands : L
   fault_more true false command line old new a b lines (dev.Disk, is, may, same, rose) h = omega (arith, faults_snoc dev.Flash lines line, faults_snoc dev.Disk lines line, one_fault dev.Disk line is)
   fault_more true true command line old new a b lines r h = omega (arith, faults_snoc dev.Flash lines line, faults_snoc dev.Disk lines line, h)
 
+  asks_more : (answered : Bool) (command : Command) (line : List ℕ) (old new : State) (a b : Counts) (lines : List (List ℕ)) → Asks 0 1 a b → Replied print sizes answered command line old new a b
+      → Asks (hits_in lines) (asking lines) before a → Asks (hits_in (lines ++ line ∷ [])) (asking (lines ++ line ∷ [])) before b
+  asks_more false command line old new a b lines one r h =
+      (omega (arith, hits_snoc lines line, h.0, r.2.0), omega (arith, loads_snoc lines line, faults_snoc dev.Flash lines line, faults_snoc dev.Disk lines line, h.1, r.2.1))
+  asks_more true command line old new a b lines one (dev.Flash, is, may, same, rose) h =
+      (omega (arith, hits_snoc lines line, no_hit dev.Flash line is, h.0, one.0), omega (arith, loads_snoc lines line, faults_snoc dev.Flash lines line, faults_snoc dev.Disk lines line, one_fault dev.Flash line is, h.1, one.1))
+  asks_more true command line old new a b lines one (dev.Disk, is, may, same, rose) h =
+      (omega (arith, hits_snoc lines line, no_hit dev.Disk line is, h.0, one.0), omega (arith, loads_snoc lines line, faults_snoc dev.Flash lines line, faults_snoc dev.Disk lines line, one_fault dev.Disk line is, h.1, one.1))
+
   -- one command more is answered
-  going_on : (answered faulted : Bool) (command : Command) (line said_now said_after : List ℕ) (old new : State) (a b : Counts) (left : List Command) → NeverFalls a b → HasNoEnd line → said_after ≡ said_now ++ ended line
+  going_on : (answered faulted : Bool) (command : Command) (line said_now said_after : List ℕ) (old new : State) (a b : Counts) (left : List Command) → NeverFalls a b → Asks 0 1 a b → HasNoEnd line → said_after ≡ said_now ++ ended line
       → Replied print sizes answered command line old new a b → Going faulted said_now a old (command ∷ left) → Going (either_fault answered faulted) said_after b new left
-  going_on answered faulted command line said_now said_after old new a b left later no_end said r g = record {
+  going_on answered faulted command line said_now said_after old new a b left later one no_end said r g = record {
     lines = g.lines ++ line ∷ [];
     answered = answered-snoc print sizes g.lines start old new commands left command line g.answered (one_of answered command line old new a b r);
     whole = whole_snoc g.lines line g.whole no_end;
@@ -206,17 +234,18 @@ module _ (print : List ℕ → Fp) (sizes : Sizes) (start : State) (commands : L
     flash_faults = flash_more answered command line old new a b g.lines later r g.flash_faults;
     disk_faults = disk_more answered command line old new a b g.lines later r g.disk_faults;
     fault = fault_more answered faulted command line old new a b g.lines r g.fault;
+    asks = asks_more answered command line old new a b g.lines one r g.asks;
   }
 
   -- one line more is answered
-  pub going_line : (o : Option Command) (answered faulted : Bool) (said_now said_after : List ℕ) (old new : State) (a b : Counts) (left : List Command) → NeverFalls a b → AnswersLine print sizes o answered old new said_now said_after a b
+  pub going_line : (o : Option Command) (answered faulted : Bool) (said_now said_after : List ℕ) (old new : State) (a b : Counts) (left : List Command) → NeverFalls a b → Asks 0 1 a b → AnswersLine print sizes o answered old new said_now said_after a b
       → Going faulted said_now a old (fronted o left) → Going (either_fault answered faulted) said_after b new (after_front o left)
-  going_line None answered faulted said_now said_after old new a b left later (none, same, said) g =
+  going_line None answered faulted said_now said_after old new a b left later one (none, same, said, idle) g =
       subst (λ (t : Bool). Going (either_fault t faulted) said_after b new left) (sym none) (subst (λ (t : Bool). Going t said_after b new left) (sym (or_none faulted))
-      (subst (λ (s : State). Going faulted said_after b s left) (sym same) (subst (λ (l : List ℕ). Going faulted l b old left) (sym said) (going_later faulted said_now a b old left later g))))
-  going_line (Some (read address)) answered faulted said_now said_after old new a b left later (line, no_end, said, r) g = going_on answered faulted (read address) line said_now said_after old new a b left later no_end said r g
-  going_line (Some quit) answered faulted said_now said_after old new a b left later (line, no_end, said, r) g = going_on answered faulted quit line said_now said_after old new a b [] later no_end said r g
-  going_line (Some (bad kind)) answered faulted said_now said_after old new a b left later (line, no_end, said, r) g = going_on answered faulted (bad kind) line said_now said_after old new a b left later no_end said r g
+      (subst (λ (s : State). Going faulted said_after b s left) (sym same) (subst (λ (l : List ℕ). Going faulted l b old left) (sym said) (going_later faulted said_now a b old left later idle g))))
+  going_line (Some (read address)) answered faulted said_now said_after old new a b left later one (line, no_end, said, r) g = going_on answered faulted (read address) line said_now said_after old new a b left later one no_end said r g
+  going_line (Some quit) answered faulted said_now said_after old new a b left later one (line, no_end, said, r) g = going_on answered faulted quit line said_now said_after old new a b [] later one no_end said r g
+  going_line (Some (bad kind)) answered faulted said_now said_after old new a b left later one (line, no_end, said, r) g = going_on answered faulted (bad kind) line said_now said_after old new a b left later one no_end said r g
 
   pub going_starts : Going false said_before before start commands
   going_starts = record {
@@ -227,6 +256,7 @@ module _ (print : List ℕ → Fp) (sizes : Sizes) (start : State) (commands : L
     flash_faults = omega arith;
     disk_faults = omega arith;
     fault = (refl, refl);
+    asks = (omega arith, omega arith);
   }
 
   sofar : (faulted : Bool) (said_after : List ℕ) (end : Counts) (state : State) (left : List Command) → Going faulted said_after end state left → Sofar print sizes start commands said_before said_after before end
@@ -242,6 +272,7 @@ module _ (print : List ℕ → Fp) (sizes : Sizes) (start : State) (commands : L
     said = g.said ∙ sym (append-nil (said_before ++ flat_map ended g.lines));
     flash_faults = g.flash_faults;
     disk_faults = g.disk_faults;
+    hits = g.asks.0;
   }
 
   -- each command is answered
@@ -252,6 +283,7 @@ module _ (print : List ℕ → Fp) (sizes : Sizes) (start : State) (commands : L
     all = refl;
     nothing_more = refl;
     fault = g.fault;
+    loads = g.asks.1;
   }
 
   halts_here : (halt : Halt) (left : List Command) → left ≢ [] → HaltsAt halt left []
@@ -269,9 +301,9 @@ module _ (print : List ℕ → Fp) (sizes : Sizes) (start : State) (commands : L
   may_come true command line old new a b r = inr r.2
 
   -- within a line
-  halts_part : (command : Command) (answered faulted : Bool) (line said_now said_after : List ℕ) (n : ℕ) (old new : State) (a b : Counts) (left : List Command) → NeverFalls a b → HasNoEnd line → said_after ≡ said_now ++ take n (ended line)
+  halts_part : (command : Command) (answered faulted : Bool) (line said_now said_after : List ℕ) (n : ℕ) (old new : State) (a b : Counts) (left : List Command) → NeverFalls a b → Asks 0 1 a b → HasNoEnd line → said_after ≡ said_now ++ take n (ended line)
       → Replied print sizes answered command line old new a b → n ≤ length line → Going faulted said_now a old (command ∷ left) → ServedUpTo print sizes start commands Output said_before said_after before b
-  halts_part command answered faulted line said_now said_after n old new a b left later no_end said r short g = record {
+  halts_part command answered faulted line said_now said_after n old new a b left later one no_end said r short g = record {
     sofar = record {
       lines = g.lines;
       state = old;
@@ -284,32 +316,53 @@ module _ (print : List ℕ → Fp) (sizes : Sizes) (start : State) (commands : L
       said = said ∙ ap (λ (l : List ℕ). said_now ++ l) (cut_part line n short) ∙ ap (λ (l : List ℕ). l ++ take n line) g.said;
       flash_faults = omega (arith, g.flash_faults, later.flash_reads);
       disk_faults = omega (arith, g.disk_faults, later.disk_reads);
+      hits = omega (arith, g.asks.0, one.0);
     };
     halts = tt;
   }
 
   -- or behind a line, where its emit failed all the same
-  halts_whole : (command : Command) (answered faulted : Bool) (line said_now said_after : List ℕ) (n : ℕ) (old new : State) (a b : Counts) (left : List Command) → NeverFalls a b → HasNoEnd line → said_after ≡ said_now ++ take n (ended line)
+  halts_whole : (command : Command) (answered faulted : Bool) (line said_now said_after : List ℕ) (n : ℕ) (old new : State) (a b : Counts) (left : List Command) → NeverFalls a b → Asks 0 1 a b → HasNoEnd line → said_after ≡ said_now ++ take n (ended line)
       → Replied print sizes answered command line old new a b → length line < n → Going faulted said_now a old (command ∷ left) → ServedUpTo print sizes start commands Output said_before said_after before b
   unfolding sofar
-  halts_whole command answered faulted line said_now said_after n old new a b left later no_end said r long g = record {
-    sofar = sofar (either_fault answered faulted) said_after b new left (going_on answered faulted command line said_now said_after old new a b left later no_end (said ∙ ap (λ (l : List ℕ). said_now ++ l) (cut_some line n long)) r g);
+  halts_whole command answered faulted line said_now said_after n old new a b left later one no_end said r long g = record {
+    sofar = sofar (either_fault answered faulted) said_after b new left (going_on answered faulted command line said_now said_after old new a b left later one no_end (said ∙ ap (λ (l : List ℕ). said_now ++ l) (cut_some line n long)) r g);
     halts = tt;
   }
 
-  halts_line : (command : Command) (answered faulted : Bool) (line said_now said_after : List ℕ) (n : ℕ) (old new : State) (a b : Counts) (left : List Command) → NeverFalls a b → HasNoEnd line → said_after ≡ said_now ++ take n (ended line)
+  halts_line : (command : Command) (answered faulted : Bool) (line said_now said_after : List ℕ) (n : ℕ) (old new : State) (a b : Counts) (left : List Command) → NeverFalls a b → Asks 0 1 a b → HasNoEnd line → said_after ≡ said_now ++ take n (ended line)
       → Replied print sizes answered command line old new a b → Going faulted said_now a old (command ∷ left) → ServedUpTo print sizes start commands Output said_before said_after before b
-  halts_line command answered faulted line said_now said_after n old new a b left later no_end said r g = ⊎_elim
-      (λ (long : length line < n). halts_whole command answered faulted line said_now said_after n old new a b left later no_end said r long g)
-      (λ (short : n ≤ length line). halts_part command answered faulted line said_now said_after n old new a b left later no_end said r short g)
+  halts_line command answered faulted line said_now said_after n old new a b left later one no_end said r g = ⊎_elim
+      (λ (long : length line < n). halts_whole command answered faulted line said_now said_after n old new a b left later one no_end said r long g)
+      (λ (short : n ≤ length line). halts_part command answered faulted line said_now said_after n old new a b left later one no_end said r short g)
       (cases_lt (length line) n)
 
+  -- a write failed, and nothing was said
+  halts_after : (why : Stop) (faulted : Bool) (said_now said_after : List ℕ) (state : State) (left : List Command) (a b : Counts) → NeverFalls a b → Asks 0 1 a b → left ≢ [] → said_after ≡ said_now → Going faulted said_now a state left
+      → ServedUpTo print sizes start commands (Stopped why) said_before said_after before b
+  halts_after why faulted said_now said_after state left a b later one some said g = record {
+    sofar = record {
+      lines = g.lines;
+      state = state;
+      left = left;
+      rest = [];
+      answered = g.answered;
+      whole = g.whole;
+      part = inl refl;
+      no_end = tt;
+      said = said ∙ g.said ∙ sym (append-nil (said_before ++ flat_map ended g.lines));
+      flash_faults = omega (arith, g.flash_faults, later.flash_reads);
+      disk_faults = omega (arith, g.disk_faults, later.disk_reads);
+      hits = omega (arith, g.asks.0, one.0);
+    };
+    halts = (some, refl);
+  }
+
   -- a command halts the run
-  pub halts_command : (halt : Halt) (o : Option Command) (faulted : Bool) (said_now said_after : List ℕ) (old : State) (a b : Counts) (left : List Command) → NeverFalls a b → fronted o left ≢ []
+  pub halts_command : (halt : Halt) (o : Option Command) (faulted : Bool) (said_now said_after : List ℕ) (old : State) (a b : Counts) (left : List Command) → NeverFalls a b → Asks 0 1 a b → fronted o left ≢ []
       → CutsLine print sizes halt o old said_now said_after a b → Going faulted said_now a old (fronted o left) → ServedUpTo print sizes start commands halt said_before said_after before b
-  halts_command (Stopped why) o faulted said_now said_after old a b left later some said g =
-      halts_between (Stopped why) faulted said_after b old (fronted o left) some (going_later faulted said_after a b old (fronted o left) later (subst (λ (l : List ℕ). Going faulted l a old (fronted o left)) (sym said) g))
-  halts_command Output None faulted said_now said_after old a b left later some cut g = absurd cut
-  halts_command Output (Some (read address)) faulted said_now said_after old a b left later some (line, n, no_end, said, answered, new, r) g = halts_line (read address) answered faulted line said_now said_after n old new a b left later no_end said r g
-  halts_command Output (Some quit) faulted said_now said_after old a b left later some (line, n, no_end, said, answered, new, r) g = halts_line quit answered faulted line said_now said_after n old new a b [] later no_end said r g
-  halts_command Output (Some (bad kind)) faulted said_now said_after old a b left later some (line, n, no_end, said, answered, new, r) g = halts_line (bad kind) answered faulted line said_now said_after n old new a b left later no_end said r g
+  halts_command (Stopped why) o faulted said_now said_after old a b left later one some said g = halts_after why faulted said_now said_after old (fronted o left) a b later one some said g
+  halts_command Output None faulted said_now said_after old a b left later one some cut g = absurd cut
+  halts_command Output (Some (read address)) faulted said_now said_after old a b left later one some (line, n, no_end, said, answered, new, r) g = halts_line (read address) answered faulted line said_now said_after n old new a b left later one no_end said r g
+  halts_command Output (Some quit) faulted said_now said_after old a b left later one some (line, n, no_end, said, answered, new, r) g = halts_line quit answered faulted line said_now said_after n old new a b [] later one no_end said r g
+  halts_command Output (Some (bad kind)) faulted said_now said_after old a b left later one some (line, n, no_end, said, answered, new, r) g = halts_line (bad kind) answered faulted line said_now said_after n old new a b left later one no_end said r g

@@ -1,5 +1,5 @@
 -- How a line is answered, and what was said so far.
-use Rattle.std.specs.Prelude.{◌≡◌, ◌≢◌, ◌<◌, ◌≤◌, ◌+◌, ℕ, Bool, true, false, List, [], ◌++◌, take, Option, Some, None}
+use Rattle.std.specs.Prelude.{◌≡◌, ◌≢◌, ◌<◌, ◌≤◌, ◌+◌, ℕ, Bool, true, false, List, [], ◌∷◌, ◌++◌, take, Option, Some, None}
 use Rattle.std.specs.List.{AllByRecursion, flat_map}
 use Rattle.dd_block.specs.declared.print.Fp.{Fp}
 use Rattle.dd_rig.specs.declared.device.Dev.{Dev}
@@ -12,6 +12,7 @@ use Rattle.dd_script.specs.Text.{HasNoEnd, ended, fault_text}
 use Rattle.dd_script.specs.Output.{reply_line}
 use Rattle.dd_script.specs.Answers.{MayFault, Answered, IsPart, faults_in}
 use Rattle.dd_script.specs.declared.reply.Stop.TheVariants as stop
+use Rattle.dd_serve.specs.Asks.{Asks, hits_in, loads_in}
 use Rattle.dd_serve.specs.declared.serving.Answer.{Answer}
 use Rattle.dd_serve.specs.declared.halt.Halt.{Halt}
 use Rattle.dd_serve.specs.declared.halt.Halt.TheVariants.{Stopped, Output}
@@ -33,7 +34,8 @@ HaltsAt (Stopped why) left rest = (left ≢ []) × (rest ≡ [])
 module _ (print : List ℕ → Fp) (sizes : Sizes) where
   -- a command is answered by its reply, or by a fault line of the device whose read failed
   abbrev pub Replied : Bool → Command → List ℕ → State → State → Counts → Counts → Type 0
-  Replied false command line old new before end = (line ≡ reply_line print sizes old command) × (new ≡ after sizes old command)
+  Replied false command line old new before end =
+      (line ≡ reply_line print sizes old command) × (new ≡ after sizes old command) × Asks (hits_in (line ∷ [])) (loads_in (line ∷ [])) before end
   Replied true command line old new before end =
       (device : Dev) × (line ≡ fault_text device) × MayFault command line × (new ≡ old) × Rose (calls_of device before).failed_reads (calls_of device end).failed_reads
 
@@ -43,14 +45,14 @@ module _ (print : List ℕ → Fp) (sizes : Sizes) where
 
   -- the same of a line, which is answered where it tells a command
   abbrev pub WritesAnswer : Option Command → Option Answer → List ℕ → State → State → Counts → Counts → Type 0
-  WritesAnswer None None text old new before end = new ≡ old
+  WritesAnswer None None text old new before end = (new ≡ old) × Asks 0 0 before end
   WritesAnswer None (Some answer) text old new before end = ⊥
   WritesAnswer (Some command) None text old new before end = ⊥
   WritesAnswer (Some command) (Some answer) text old new before end = WritesLine command answer text old new before end
 
   -- one line more was said, where a command was told
   abbrev pub AnswersLine : Option Command → Bool → State → State → List ℕ → List ℕ → Counts → Counts → Type 0
-  AnswersLine None faulted old new said_before said_after before end = (faulted ≡ false) × (new ≡ old) × (said_after ≡ said_before)
+  AnswersLine None faulted old new said_before said_after before end = (faulted ≡ false) × (new ≡ old) × (said_after ≡ said_before) × Asks 0 0 before end
   AnswersLine (Some command) faulted old new said_before said_after before end =
       (line : List ℕ) × HasNoEnd line × (said_after ≡ said_before ++ ended line) × Replied faulted command line old new before end
 
@@ -75,6 +77,8 @@ module _ (print : List ℕ → Fp) (sizes : Sizes) where
     pub said : said_after ≡ said_before ++ flat_map ended lines ++ rest
     pub flash_faults : plus before.flash.failed_reads (faults_in dev.Flash lines) ≤ end.flash.failed_reads
     pub disk_faults : plus before.disk.failed_reads (faults_in dev.Disk lines) ≤ end.disk.failed_reads
+    -- each hit was read from the flash
+    pub hits : plus before.flash.reads (hits_in lines) ≤ end.flash.reads
 
   -- each command was answered
   pub record ServedAll (start : State) (commands : List Command) (faulted : Bool) (said_before said_after : List ℕ) (before end : Counts) : Type 0 where
@@ -82,6 +86,8 @@ module _ (print : List ℕ → Fp) (sizes : Sizes) where
     pub all : sofar.left ≡ []
     pub nothing_more : sofar.rest ≡ []
     pub fault : HasFault faulted sofar.lines
+    -- the disk was read for joins, misses and faults alone
+    pub loads : end.disk.reads ≤ before.disk.reads + (loads_in sofar.lines + (faults_in dev.Flash sofar.lines + faults_in dev.Disk sofar.lines))
 
   pub record ServedUpTo (start : State) (commands : List Command) (halt : Halt) (said_before said_after : List ℕ) (before end : Counts) : Type 0 where
     pub sofar : Sofar start commands said_before said_after before end

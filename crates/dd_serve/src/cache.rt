@@ -4,6 +4,7 @@ ghost use Rattle.dd_rig.specs.Counts.{Rose, NeverFalls};
 ghost use Rattle.dd_rig.specs.declared.device.Dev.TheVariants.{Flash as FlashDevice, Disk as DiskDevice};
 ghost use Rattle.dd_rig.specs.Device.{write_bytes};
 ghost use Rattle.dd_rig.specs.World.{World, shown, on_device};
+ghost use Rattle.dd_serve.specs.Asks.{Asks, slots_for, blocks_for};
 ghost use Rattle.dd_serve.specs.Holds.{Located, OnlyFlash, after_touch, Fits, IsSound, state_of, sizes_of, slot_at, slot_block, block_of, IsAmong, IsThis, Confirms};
 ghost use Rattle.dd_serve.specs.Causes.{Faulted, LeavesWorld};
 ghost use Rattle.dd_serve.specs.Rows.{cut_of, linked_block};
@@ -45,6 +46,7 @@ fn load<R: Rig>(rig: &mut R, slot: u32, into: &mut [u8]) -> Result<(), CacheFaul
     ensures bytes { R.tells → OnOk result (into.new ≡ slot_block (length into.old) (R.world rig.old) slot) }
     ensures world { R.tells → R.world rig.new ≡ R.world rig.old }
     ensures later { NeverFalls (R.counts rig.old) (R.counts rig.new) }
+    ensures asks { Asks 1 0 (R.counts rig.old) (R.counts rig.new) }
     ensures untouched { (R.counts rig.new).disk.writes ≡ (R.counts rig.old).disk.writes }
     ensures cause { IfErr result (λ fault. Faulted fault (R.counts rig.old) (R.counts rig.new)) }
     ensures size { R.device_size rig.new ≡ R.device_size rig.old }
@@ -61,6 +63,7 @@ fn save<R: Rig>(rig: &mut R, slot: u32, from: &[u8]) -> Result<(), CacheFault>
     ensures others { R.tells → OnlyFlash (R.world rig.old) (R.world rig.new) }
     ensures unread { R.tells → IfErr result (λ fault. LeavesWorld fault (R.world rig.old) (R.world rig.new)) }
     ensures later { NeverFalls (R.counts rig.old) (R.counts rig.new) }
+    ensures asks { Asks 0 0 (R.counts rig.old) (R.counts rig.new) }
     ensures untouched { (R.counts rig.new).disk.writes ≡ (R.counts rig.old).disk.writes }
     ensures cause { IfErr result (λ fault. Faulted fault (R.counts rig.old) (R.counts rig.new)) }
     ensures size { R.device_size rig.new ≡ R.device_size rig.old }
@@ -76,6 +79,7 @@ fn fetch<R: Rig>(rig: &mut R, address: u32, into: &mut [u8]) -> Result<(), Cache
     ensures bytes { R.tells → OnOk result (into.new ≡ block_of (length into.old) (R.world rig.old) address) }
     ensures world { R.tells → R.world rig.new ≡ R.world rig.old }
     ensures later { NeverFalls (R.counts rig.old) (R.counts rig.new) }
+    ensures asks { Asks 0 1 (R.counts rig.old) (R.counts rig.new) }
     ensures untouched { (R.counts rig.new).disk.writes ≡ (R.counts rig.old).disk.writes }
     ensures cause { IfErr result (λ fault. Faulted fault (R.counts rig.old) (R.counts rig.new)) }
     ensures size { R.device_size rig.new ≡ R.device_size rig.old }
@@ -99,6 +103,7 @@ fn is_this<R: Rig>(
     ensures found { R.tells → IfOk result (λ same. IsThis same row fp block.now (R.world rig.old)) }
     ensures world { R.tells → R.world rig.new ≡ R.world rig.old }
     ensures later { NeverFalls (R.counts rig.old) (R.counts rig.new) }
+    ensures asks { Asks 0 0 (R.counts rig.old) (R.counts rig.new) }
     ensures untouched { (R.counts rig.new).disk.writes ≡ (R.counts rig.old).disk.writes }
     ensures cause { IfErr result (λ fault. Faulted fault (R.counts rig.old) (R.counts rig.new)) }
     ensures size { R.device_size rig.new ≡ R.device_size rig.old }
@@ -127,6 +132,7 @@ fn confirm<R: Rig>(
     ensures slot { IfOk result (λ row. IfSome row (λ found. (found.slot ≤ most))) }
     ensures world { R.tells → R.world rig.new ≡ R.world rig.old }
     ensures later { NeverFalls (R.counts rig.old) (R.counts rig.new) }
+    ensures asks { Asks 0 0 (R.counts rig.old) (R.counts rig.new) }
     ensures untouched { (R.counts rig.new).disk.writes ≡ (R.counts rig.old).disk.writes }
     ensures cause { IfErr result (λ fault. Faulted fault (R.counts rig.old) (R.counts rig.new)) }
     ensures size { R.device_size rig.new ≡ R.device_size rig.old }
@@ -184,6 +190,8 @@ impl Cache {
         ensures others { R.tells → OnlyFlash (R.world rig.old) (R.world rig.new) }
         ensures unread { R.tells → IfErr result (λ fault. LeavesWorld fault (R.world rig.old) (R.world rig.new)) }
         ensures later { NeverFalls (R.counts rig.old) (R.counts rig.new) }
+        ensures asks { Asks 0 1 (R.counts rig.old) (R.counts rig.new) }
+        ensures asks_for { IfOk result (λ done. Asks (slots_for done.kind) (blocks_for done.kind) (R.counts rig.old) (R.counts rig.new)) }
         ensures untouched { (R.counts rig.new).disk.writes ≡ (R.counts rig.old).disk.writes }
         ensures cause { IfErr result (λ fault. Faulted fault (R.counts rig.old) (R.counts rig.new)) }
         ensures size { R.device_size rig.new ≡ R.device_size rig.old }
@@ -212,6 +220,8 @@ impl Cache {
         ensures others { R.tells → OnlyFlash (R.world rig.old) (R.world rig.new) }
         ensures unread { R.tells → IfErr result (λ fault. LeavesWorld fault (R.world rig.old) (R.world rig.new)) }
         ensures later { NeverFalls (R.counts rig.old) (R.counts rig.new) }
+        ensures asks { Asks 0 1 (R.counts rig.old) (R.counts rig.new) }
+        ensures asks_for { IfOk result (λ found. Asks (slots_for found.0) (blocks_for found.0) (R.counts rig.old) (R.counts rig.new)) }
         ensures untouched { (R.counts rig.new).disk.writes ≡ (R.counts rig.old).disk.writes }
         ensures cause { IfErr result (λ fault. Faulted fault (R.counts rig.old) (R.counts rig.new)) }
         ensures size { R.device_size rig.new ≡ R.device_size rig.old }
@@ -245,6 +255,8 @@ impl Cache {
         ensures others { R.tells → OnlyFlash (R.world rig.old) (R.world rig.new) }
         ensures unread { R.tells → IfErr result (λ fault. LeavesWorld fault (R.world rig.old) (R.world rig.new)) }
         ensures later { NeverFalls (R.counts rig.old) (R.counts rig.new) }
+        ensures asks { Asks 0 1 (R.counts rig.old) (R.counts rig.new) }
+        ensures asks_for { IfOk result (λ found. Asks (slots_for found.0) (blocks_for found.0) (R.counts rig.old) (R.counts rig.new)) }
         ensures untouched { (R.counts rig.new).disk.writes ≡ (R.counts rig.old).disk.writes }
         ensures cause { IfErr result (λ fault. Faulted fault (R.counts rig.old) (R.counts rig.new)) }
         ensures size { R.device_size rig.new ≡ R.device_size rig.old }

@@ -7,9 +7,11 @@ ghost use Rattle.dd_script.specs.Line.{told, IsBelow};
 ghost use Rattle.dd_script.specs.Script.{commands_of, EndsWithin};
 ghost use Rattle.dd_script.specs.Command.{read};
 ghost use Rattle.dd_serve.specs.declared.halt.Halt.TheVariants.{Output};
+ghost use Rattle.dd_serve.specs.Asks.{Asks};
 ghost use Rattle.dd_serve.specs.Causes.{Caused, Halts, ScriptHalts};
 ghost use Rattle.dd_serve.specs.Holds.{Fits, IsSound, OnlyFlash, state_of, sizes_of};
 ghost use Rattle.dd_serve.specs.Reading.{left, fuel, fronted, quits, BurnsUnlessQuit, Bounds};
+ghost use Rattle.dd_serve.specs.Run.{IsIdle};
 ghost use Rattle.dd_serve.specs.Serving.{AnswersLine, WritesAnswer, WritesLine, HaltsByFlash, CutsLine, ServedAll, ServedUpTo};
 
 use crate::cache::{Cache, CacheFault};
@@ -120,6 +122,7 @@ fn answer_line<F: Fingerprint, R: Rig>(
     ensures fits { OnOk result (Fits cache.new (R.device_size rig.new)) }
     ensures sizes { OnOk result ((sizes_of cache.new ≡ sizes_of cache.old) × (cache.new.count ≤ cache.old.count + 1)) }
     ensures disk { R.tells → (R.world rig.new).disk ≡ (R.world rig.old).disk }
+    ensures asks { Asks 0 1 (R.counts rig.old) (R.counts rig.new) }
     ensures untouched { (R.counts rig.new).disk.writes ≡ (R.counts rig.old).disk.writes }
     ensures later { NeverFalls (R.counts rig.old) (R.counts rig.new) }
     ensures cause { IfErr result (λ halt. Caused halt (R.counts rig.old) (R.counts rig.new)) }
@@ -157,6 +160,7 @@ fn write_answer<F: Fingerprint, R: Rig>(
     ensures fits { OnOk result (Fits cache.new (R.device_size rig.new)) }
     ensures sizes { OnOk result ((sizes_of cache.new ≡ sizes_of cache.old) × (cache.new.count ≤ cache.old.count + 1)) }
     ensures others { R.tells → OnlyFlash (R.world rig.old) (R.world rig.new) }
+    ensures asks { Asks 0 1 (R.counts rig.old) (R.counts rig.new) }
     ensures untouched { (R.counts rig.new).disk.writes ≡ (R.counts rig.old).disk.writes }
     ensures later { NeverFalls (R.counts rig.old) (R.counts rig.new) }
     ensures halt { IfErr result (λ halt. HaltsByFlash halt (R.counts rig.old) (R.counts rig.new)) }
@@ -201,6 +205,7 @@ fn write_read<F: Fingerprint, R: Rig>(
     ensures fits { OnOk result (Fits cache.new (R.device_size rig.new)) }
     ensures sizes { OnOk result ((sizes_of cache.new ≡ sizes_of cache.old) × (cache.new.count ≤ cache.old.count + 1)) }
     ensures others { R.tells → OnlyFlash (R.world rig.old) (R.world rig.new) }
+    ensures asks { Asks 0 1 (R.counts rig.old) (R.counts rig.new) }
     ensures untouched { (R.counts rig.new).disk.writes ≡ (R.counts rig.old).disk.writes }
     ensures later { NeverFalls (R.counts rig.old) (R.counts rig.new) }
     ensures halt { IfErr result (λ halt. HaltsByFlash halt (R.counts rig.old) (R.counts rig.new)) }
@@ -228,7 +233,7 @@ pub fn say<R: Rig>(rig: &mut R, piece: &[u8]) -> Result<(), Halt>
     ensures said { R.tells → OnOk result (R.world rig.new ≡ world.say piece.now (R.world rig.old)) }
     ensures part { R.tells → SaysSome piece.now (R.world rig.old) (R.world rig.new) }
     ensures others { R.tells → ((R.world rig.new).flash ≡ (R.world rig.old).flash) × ((R.world rig.new).disk ≡ (R.world rig.old).disk) }
-    ensures untouched { (R.counts rig.new).disk.writes ≡ (R.counts rig.old).disk.writes }
+    ensures idle { IsIdle (R.counts rig.old) (R.counts rig.new) }
     ensures later { NeverFalls (R.counts rig.old) (R.counts rig.new) }
     ensures halt { OnErr result (result ≡ Err Output) }
     ensures rose { OnErr result (Rose (R.counts rig.old).failed_emits (R.counts rig.new).failed_emits) }

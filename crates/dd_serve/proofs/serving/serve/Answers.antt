@@ -53,7 +53,7 @@ returns-in_err-failed-clause-some g c = λ t u.
     subst (λ (z : Sizes). CutsLine printed z c.in_err-failed.field-0.0 o state (world c.lines.rig).said (world c.answer_line.new.rig).said (counts c.lines.rig) (counts c.answer_line.new.rig)) c.lines.invariant.sizes (c.in_err-failed.ensures.cut t) in
     let served : ServedUpTo printed sizes start commands c.in_err-failed.field-0.0 (world c.args.rig.now).said (world c.answer_line.new.rig).said (counts c.args.rig.now) (counts c.answer_line.new.rig) =
     halts_command printed sizes start commands (world c.args.rig.now).said (counts c.args.rig.now) c.in_err-failed.field-0.0 o c.lines.faulted (world c.lines.rig).said (world c.answer_line.new.rig).said state
-    (counts c.lines.rig) (counts c.answer_line.new.rig) next c.answer_line.ensures.later (λ e. commands_some blocks (left c.lines.reader (rest c.lines.source)) (front ∙ e)) cut
+    (counts c.lines.rig) (counts c.answer_line.new.rig) next c.answer_line.ensures.later c.answer_line.ensures.asks (λ e. commands_some blocks (left c.lines.reader (rest c.lines.source)) (front ∙ e)) cut
     (subst (λ (l : List Command). Going printed sizes start commands (world c.args.rig.now).said (counts c.args.rig.now) c.lines.faulted (world c.lines.rig).said (counts c.lines.rig) state l) front (c.lines.invariant.told t u)) in
     handed_on c.from_residual-in_err-failed.result _ (λ (halt : Halt). ServedUpTo printed sizes start commands halt (world c.args.rig.now).said (world c.answer_line.new.rig).said (counts c.args.rig.now) (counts c.answer_line.new.rig))
     c.from_residual-in_err-failed.ensures.1
@@ -78,7 +78,7 @@ returns-then-is_quit-clause-all g c = λ t u.
     let answer : AnswersLine printed sizes o c.in_ok-failed.failed state after (world c.lines.rig).said (world c.answer_line.new.rig).said (counts c.lines.rig) (counts c.answer_line.new.rig) =
     subst (λ (z : Sizes). AnswersLine printed z o c.in_ok-failed.failed state after (world c.lines.rig).said (world c.answer_line.new.rig).said (counts c.lines.rig) (counts c.answer_line.new.rig)) c.lines.invariant.sizes (c.in_ok-failed.ensures.answer t) in
     let going = going_line printed sizes start commands (world c.args.rig.now).said (counts c.args.rig.now) o c.in_ok-failed.failed c.lines.faulted (world c.lines.rig).said (world c.answer_line.new.rig).said state after
-    (counts c.lines.rig) (counts c.answer_line.new.rig) next c.answer_line.ensures.later answer
+    (counts c.lines.rig) (counts c.answer_line.new.rig) next c.answer_line.ensures.later c.answer_line.ensures.asks answer
     (subst (λ (l : List Command). Going printed sizes start commands (world c.args.rig.now).said (counts c.args.rig.now) c.lines.faulted (world c.lines.rig).said (counts c.lines.rig) state l) front (c.lines.invariant.told t u)) in
     let none : after_front o next ≡ [] = front_quit o next (sym c.is_quit.ensures ∙ c.if-is_quit.true) in
     let faulted : Bool = c.lines.faulted || c.in_ok-failed.failed in
@@ -114,7 +114,7 @@ lines-preserved g c =
           let answer : AnswersLine printed sizes o c.in_ok-failed.failed state after (world c.lines.rig).said (world c.answer_line.new.rig).said (counts c.lines.rig) (counts c.answer_line.new.rig) =
           subst (λ (z : Sizes). AnswersLine printed z o c.in_ok-failed.failed state after (world c.lines.rig).said (world c.answer_line.new.rig).said (counts c.lines.rig) (counts c.answer_line.new.rig)) i.sizes (c.in_ok-failed.ensures.answer t) in
           let going = going_line printed sizes start commands (world c.args.rig.now).said (counts c.args.rig.now) o c.in_ok-failed.failed c.lines.faulted (world c.lines.rig).said (world c.answer_line.new.rig).said state after
-          (counts c.lines.rig) (counts c.answer_line.new.rig) next c.answer_line.ensures.later answer
+          (counts c.lines.rig) (counts c.answer_line.new.rig) next c.answer_line.ensures.later c.answer_line.ensures.asks answer
           (subst (λ (l : List Command). Going printed sizes start commands (world c.args.rig.now).said (counts c.args.rig.now) c.lines.faulted (world c.lines.rig).said (counts c.lines.rig) state l) front (i.told t u)) in
           subst (λ (l : List Command). Going printed sizes start commands (world c.args.rig.now).said (counts c.args.rig.now) faulted (world c.answer_line.new.rig).said (counts c.answer_line.new.rig) after l) (front_other o next other) going;
       sound = λ t. c.in_ok-failed.ensures.sound t;

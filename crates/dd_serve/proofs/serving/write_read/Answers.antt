@@ -1,9 +1,22 @@
 use Rattle.std.proofs.Common.{inl, inr, refl, ap, ◌∙◌}
 use Rattle.dd_rig.specs.declared.device.Dev.TheVariants.{Flash, Disk}
-use Rattle.dd_script.specs.Text.{fault_text}
+use Rattle.std.specs.Prelude.{option_map}
+use Rattle.dd_record.specs.declared.row.BRow.{BRow}
+use Rattle.dd_script.specs.Text.{fault_text, read_text}
 use Rattle.dd_serve.specs.declared.cache.Cache.{Cache}
 use Rattle.dd_serve.specs.Holds.{state_of}
+use Rattle.dd_serve.proofs.Answering.{asks_read, read_line_is}
 use Rattle.dd_serve.proofs.serving.write_read.Goals as goal
+
+pub returns-in-Ok-clause-answer : goal.returns-in-Ok-clause-answer
+returns-in-Ok-clause-answer g c = λ t.
+    let done = c.in-Ok.done in
+    let told = c.in-Ok.ensures.answer t in (
+      read_text done.kind c.read.new.block done.cut.out (option_map (λ (row : BRow). row.fp) done.cut.drop),
+      c.reply_read.ensures.line,
+      c.reply_read.ensures.text,
+      (read_line_is _ _ done _ _ told (c.in-Ok.ensures.block t), c.in-Ok.ensures.state t, asks_read done.kind done.kind _ _ _ (g.R.Rig.counts c.args.rig.now) (g.R.Rig.counts c.read.new.rig) refl c.in-Ok.ensures.asks_for),
+    )
 
 pub returns-in-Err-FlashRead-clause-answer : goal.returns-in-Err-FlashRead-clause-answer
 returns-in-Err-FlashRead-clause-answer g c = λ t.

@@ -8,7 +8,7 @@ use Rattle.dd_script.specs.Text.{stop_text}
 use Rattle.dd_serve.specs.declared.halt.Halt.TheVariants.{Stopped}
 use Rattle.dd_serve.specs.Causes.{Halts}
 use Rattle.dd_serve.specs.Serving.{ServedAll, ServedUpTo}
-use Rattle.dd_serve.specs.Run.{Serves, SaysAlone, IsBounded, replay_sizes, replay_start, replay_commands, replay_blocks}
+use Rattle.dd_serve.specs.Run.{IsIdle, Serves, SaysAlone, IsBounded, replay_sizes, replay_start, replay_commands, replay_blocks}
 use Rattle.dd_serve.proofs.Causes.{falls_self}
 use Rattle.dd_serve.proofs.Going.{commands_some}
 use Rattle.dd_serve.proofs.Starts.{halts_by}
@@ -39,8 +39,9 @@ returns-in_default-clause-served g c = λ t u.
     let said : SaysAlone (stop_text stop.Memory) before end old new = subst (λ (w : World). SaysAlone (stop_text stop.Memory) before end w new) world
     (subst (λ (k : Counts). SaysAlone (stop_text stop.Memory) k end (g.R.Rig.world c.replay.new.rig) new) counts (c.end.ensures.said t)) in
     let later = subst (λ (k : Counts). NeverFalls k end) counts c.end.ensures.later in
+    let idle = subst (λ (k : Counts). IsIdle k end) counts c.end.ensures.idle in
     subst (λ (n : ℕ). Serves print c.args.plan n script old new before end) (sym c.end.ensures.status)
-    (stops_alone print c.args.plan script old before stop.Memory old new before end (falls_self before) later (stops_early print c.args.plan script old before (commands_some (replay_blocks c.args.plan old) script)) said)
+    (stops_alone print c.args.plan script old before stop.Memory old new before end (falls_self before) later idle (stops_early print c.args.plan script old before (commands_some (replay_blocks c.args.plan old) script)) said)
 
 pub returns-in-Ok-served-clause-served : goal.returns-in-Ok-served-clause-served
 returns-in-Ok-served-clause-served g c = λ t u.
@@ -84,5 +85,5 @@ returns-in-Stopped-clause-served g c = λ t u.
     let halted : Halts Q (Stopped why) before between (failures c.args.source.now) (failures c.replay.new.source) = halts_by P Q (λ long. long t u) (Stopped why) before between _ _ halts in
     let served : ServedUpTo print (replay_sizes c.args.plan old) (replay_start c.args.plan old) (replay_commands c.args.plan old script) (Stopped why) old.said middle.said before between = rw c.in-Stopped.is at (rw c.in-Err.is at (c.in-Ok.ensures.some t u)) in
     subst (λ (n : ℕ). Serves print c.args.plan n script old new before end) (sym (c.end-in-Stopped.ensures.status ∙ c.status_of.ensures))
-    (stops_alone print c.args.plan script old before why middle new between end c.replay.ensures.later c.end-in-Stopped.ensures.later
+    (stops_alone print c.args.plan script old before why middle new between end c.replay.ensures.later c.end-in-Stopped.ensures.later c.end-in-Stopped.ensures.idle
     (stops_served print c.args.plan script old before why middle between _ _ served halted) (c.end-in-Stopped.ensures.said t))
