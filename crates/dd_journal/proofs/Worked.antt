@@ -7,7 +7,7 @@ use Rattle.dd_layout.specs.Super.{super_text}
 use Rattle.dd_record.specs.declared.rec.Rec.TheVariants.{Link}
 use Rattle.dd_record.specs.Spelling.{head_text, group_text}
 use Rattle.dd_journal.specs.declared.fault.JournalFault.TheVariants.{NoRegion, Snapshot, Group, Worn}
-use Rattle.dd_journal.specs.Faults.{journal_fault}
+use Rattle.dd_journal.specs.Faults.{journal_fault, snapshot_only_fault}
 
 abbrev worked : Geometry
 worked = record {
@@ -79,3 +79,17 @@ older_header = refl
 -- the region with the greater epoch counts
 newer_counts : journal_fault worked (written_at formatted 693 (1 ∷ head_text (record { epoch = 2; count = 7; len_a = 0; len_b = 1 }) ++ 3 ∷ [])) ≡ Some (Snapshot 1 726)
 newer_counts = refl
+
+-- until records are logged an open gate at the beginning of the log is refused there, before a worn epoch
+formatted_is_found : snapshot_only_fault worked formatted ≡ None
+formatted_is_found = refl
+
+open_log : snapshot_only_fault worked (slice_set formatted 97 1) ≡ Some (Group 0 97)
+open_log = refl
+
+open_log_before_worn : snapshot_only_fault worked (slice_set (slice_set formatted 80 0x40) 97 1) ≡ Some (Group 0 97)
+open_log_before_worn = refl
+
+-- and a row that breaks a rule before that
+row_before_log : snapshot_only_fault worked (written_at formatted 93 (1 ∷ 0 ∷ 0 ∷ 0 ∷ 3 ∷ [])) ≡ Some (Snapshot 0 97)
+row_before_log = refl

@@ -1,5 +1,5 @@
 // The journal, and how it commits.
-ghost use Rattle.std.specs.Prelude.{◌≡◌, ◌⊎◌, ◌+◌, ◌-◌, ◌*◌, ◌^◌, ◌<◌, ◌≤◌, [], ℕ, List, length, false, IsTrue, IsOk, IfOk, OnOk, OnErr};
+ghost use Rattle.std.specs.Prelude.{◌≡◌, ◌⊎◌, ◌+◌, ◌-◌, ◌*◌, ◌^◌, ◌<◌, ◌≤◌, [], ℕ, List, length, false, IsTrue, IsOk, OnOk, OnErr};
 ghost use Rattle.dd_rig.specs.declared.device.Dev.TheVariants.{Flash};
 ghost use Rattle.dd_rig.specs.Device.{IsImage};
 ghost use Rattle.dd_rig.specs.World.{WithinWrite};
@@ -7,16 +7,17 @@ ghost use Rattle.dd_rig.specs.Clock.{Elapses};
 ghost use Rattle.dd_rig.specs.Counts.{NeverFalls, Rose};
 ghost use Rattle.dd_rig.specs.Leaves.{LeavesShown};
 ghost use Rattle.dd_layout.specs.Layout.{region_at, flash_need};
+ghost use Rattle.dd_record.specs.Spelling.{IsHead};
 ghost use Rattle.dd_record.specs.Table.{Table};
 ghost use Rattle.dd_journal.specs.Gates.{WritesFlash};
 ghost use Rattle.dd_journal.specs.Regions.{table_of, snapshot_size};
 ghost use Rattle.dd_journal.specs.Sitting.{JournalView, view_of, IsJournal, MayCommit, Sits, Leads, IsStable, IsEither, regions_size};
 
+use crate::choice::Choice;
 use crate::region::write_region;
 use dd_block::Geometry;
 use dd_record::{Head, Rec, Rows};
 use dd_rig::{Failed, Rig};
-use std::alloc::{AllocError, Global};
 use std::marker::Model;
 
 /// Where the committed state of a flash stands: which region counts, its epoch and its count.
@@ -33,8 +34,8 @@ pub struct Journal {
     len_a: u32,
     len_b: u32,
     other_open: bool,
-    // room for the largest snapshot and the gate behind it
-    snapshot: Vec<u8>,
+    // room for the largest snapshot and a gate on each side of it
+    buffer: Vec<u8>,
 }
 
 impl Model for Journal {
@@ -53,37 +54,30 @@ impl Model for Journal {
     } };
 
     ghost invariant = { λ j. (j.region < 2) × (j.room ≤ j.geo.log) × (j.len_a ≤ j.geo.acap) × (j.len_b ≤ j.geo.bcap)
-        × (length j.snapshot.items ≡ 33 + 36 * j.geo.bcap + 44 * j.geo.acap) };
+        × (length j.buffer.items ≡ 34 + 36 * j.geo.bcap + 44 * j.geo.acap) };
 }
 
 impl Journal {
-    // The journal of a region whose snapshot has this header and whose log is empty. It makes the
-    // room for each snapshot to come.
-    pub(crate) fn of_region(
-        alloc: Global,
-        geo: Geometry,
-        region: u32,
-        head: Head,
-        other_open: bool,
-    ) -> Result<Self, AllocError>
-        requires region { region < 2 }
-        requires len_a { head.len_a ≤ geo.acap }
-        requires len_b { head.len_b ≤ geo.bcap }
-        ensures { IfOk result (λ journal. journal ≡ view_of geo region head other_open) }
+    // The journal of the region that counts, whose log is empty. The buffer has room for each
+    // snapshot to come.
+    pub(crate) fn of_choice(geo: Geometry, choice: Choice, buffer: Vec<u8>) -> Self
+        requires region { choice.region < 2 }
+        requires head { IsHead geo choice.head }
+        requires room { length buffer.items ≡ 34 + 36 * geo.bcap + 44 * geo.acap }
+        ensures { result ≡ view_of geo choice.region choice.head choice.other_open }
     {
-        let size = 33 + 36 * geo.bcap + 44 * geo.acap;
-        Ok(Journal {
+        Journal {
             up: true,
             geo,
-            region,
-            epoch: head.epoch,
+            region: choice.region,
+            epoch: choice.head.epoch,
             room: geo.log,
-            committed: head.count,
-            len_a: head.len_a,
-            len_b: head.len_b,
-            other_open,
-            snapshot: vec![in alloc; 0; size as usize]?,
-        })
+            committed: choice.head.count,
+            len_a: choice.head.len_a,
+            len_b: choice.head.len_b,
+            other_open: choice.other_open,
+            buffer,
+        }
     }
 
     /// The bytes left in the log.
@@ -179,7 +173,7 @@ impl Journal {
             self.other_open,
             head,
             table,
-            &mut self.snapshot,
+            &mut self.buffer,
         )?;
         self.region = region;
         self.epoch = head.epoch;
