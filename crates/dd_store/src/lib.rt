@@ -1,0 +1,6 @@
+//! The store: what it is that two devices stand for a state of the cache.
+//!
+//! `specs/Meaning` has the relation that every crash clause above ends in: the bytes of a flash and
+//! of a disk stand for an array, both recency lists and a count. It reads two whole images; it knows
+//! nothing of pending records, free slots or indexes. The calls of the store are still to come.
+#![tactic(auto)]
