@@ -73,6 +73,7 @@ abbrev pub refusal_text : Refusal → List ℕ
 refusal_text refusal.Words = codes "refused words"
 refusal_text (refusal.FlashSmall need have) = small_text (codes "flash") need have
 refusal_text (refusal.DiskSmall need have) = small_text (codes "disk") need have
+refusal_text refusal.InUse = codes "refused in use"
 
 -- the line of a reply
 abbrev pub reply_text : Reply → List ℕ
@@ -81,3 +82,4 @@ reply_text (reply.Fault device) = fault_text device
 reply_text (reply.Bye count) = bye_text count
 reply_text (reply.Stopped why) = stop_text why
 reply_text (reply.Refused why) = refusal_text why
+reply_text reply.Formatted = codes "formatted"

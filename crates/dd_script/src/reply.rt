@@ -27,6 +27,8 @@ pub enum Refusal {
     FlashSmall { need: u64, have: u64 },
     /// The disk has fewer bytes than the run needs.
     DiskSmall { need: u64, have: u64 },
+    /// The flash is in use: its byte 0 is 1.
+    InUse,
 }
 
 /// A line of output.
@@ -40,4 +42,6 @@ pub enum Reply {
     Bye(u64),
     Stopped(Stop),
     Refused(Refusal),
+    /// The flash was formatted.
+    Formatted,
 }

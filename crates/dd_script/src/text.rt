@@ -44,6 +44,7 @@ pub fn write_reply(reply: Reply, into: &mut [u8]) -> usize
         Reply::Bye(count) => write_bye(count, into),
         Reply::Stopped(why) => put(into, 0, stopped_line(why)),
         Reply::Refused(why) => write_refusal(why, into),
+        Reply::Formatted => put(into, 0, b"formatted\n"),
     }
 }
 
@@ -68,6 +69,7 @@ fn write_refusal(why: Refusal, into: &mut [u8]) -> usize
         Refusal::Words => put(into, 0, b"refused words\n"),
         Refusal::FlashSmall { need, have } => write_small(b"flash", need, have, into),
         Refusal::DiskSmall { need, have } => write_small(b"disk", need, have, into),
+        Refusal::InUse => put(into, 0, b"refused in use\n"),
     }
 }
 

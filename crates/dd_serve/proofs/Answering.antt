@@ -23,7 +23,7 @@ use Rattle.dd_script.specs.Text.{read_text, bye_text, bad_text}
 use Rattle.dd_serve.specs.declared.cache.Cache.{Cache}
 use Rattle.dd_serve.specs.declared.serving.Answer.{Answer}
 use Rattle.dd_serve.specs.Asks.{Asks, slots_for, blocks_for, hits_in, loads_in}
-use Rattle.dd_serve.specs.Run.{IsIdle}
+use Rattle.dd_serve.specs.Saying.{IsIdle}
 use Rattle.dd_serve.specs.Holds.{IsSound, state_of}
 use Rattle.dd_script.specs.declared.reply.Stop.{Stop}
 use Rattle.dd_serve.specs.declared.halt.Halt.{Halt}

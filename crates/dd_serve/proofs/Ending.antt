@@ -28,7 +28,8 @@ use Rattle.dd_serve.specs.declared.words.Plan.{Plan}
 use Rattle.dd_serve.specs.Causes.{Halts}
 use Rattle.dd_serve.specs.Serving.{Sofar, HasFault, ServedAll, ServedUpTo}
 use Rattle.dd_serve.specs.Asks.{hits_in, loads_in}
-use Rattle.dd_serve.specs.Run.{IsIdle, Serves, SaysAlone, IsLast, IsBounded, last_line, status_of, said_since, lines_since, replay_sizes, replay_start, replay_commands, replay_output}
+use Rattle.dd_serve.specs.Saying.{IsIdle, SaysAlone}
+use Rattle.dd_serve.specs.Run.{Serves, IsLast, IsBounded, last_line, status_of, said_since, lines_since, replay_sizes, replay_start, replay_commands, replay_output}
 use Rattle.dd_serve.proofs.Going.{asking, hits_snoc, faults_snoc, flat_snoc, whole_snoc, no_faults, cut_some, cut_part, front_no_end}
 
 -- what was said since
@@ -339,9 +340,10 @@ module _ (print : List ℕ → Fp) (plan : Plan) (script : List ℕ) (old : Worl
     long = halts_long why (IsBounded plan old script → ⊥) before end m n halts;
   }
 
-  -- it never began
-  pub stops_early : commands ≢ [] → StopsWith stop.Memory old before
-  stops_early some = record {
+  -- it never began: no more than a read of the flash was made
+  pub stops_early : (why : Stop) (between : Counts) → NeverFalls before between → plus before.flash.reads 0 ≤ between.flash.reads → last_line (status_of why) ≡ Some (stop_text why) → (status_of why ≡ 8 → ⊥)
+      → commands ≢ [] → StopsWith why old between
+  stops_early why between later reads last not_long some = record {
     sofar = record {
       lines = [];
       state = start;
@@ -352,12 +354,12 @@ module _ (print : List ℕ → Fp) (plan : Plan) (script : List ℕ) (old : Worl
       part = inl refl;
       no_end = tt;
       said = sym (append-nil (old.said ++ []) ∙ append-nil old.said);
-      flash_faults = omega arith;
-      disk_faults = omega arith;
-      hits = omega arith;
+      flash_faults = omega (arith, later.flash_reads);
+      disk_faults = omega (arith, later.disk_reads);
+      hits = reads;
     };
     some = some;
     nothing_more = refl;
-    last = refl;
-    long = λ e. absurd (omega arith);
+    last = last;
+    long = λ e. absurd (not_long e);
   }

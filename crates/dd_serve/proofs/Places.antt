@@ -8,13 +8,13 @@ use Rattle.dd_rig.specs.declared.device.Dev.TheVariants.{Flash, Disk}
 use Rattle.dd_rig.specs.Device.{write_bytes, overwrite}
 use Rattle.dd_rig.specs.World.{World, shown, on_device}
 use Rattle.dd_model.specs.declared.kind.Kind.TheVariants.{Hit, Join, Miss}
-use Rattle.dd_model.specs.State.{content, is_known}
+use Rattle.dd_model.specs.State.{array_of, content, is_known}
 use Rattle.dd_model.specs.Step.{read_kind}
 use Rattle.dd_record.specs.declared.row.BRow.{BRow}
 use Rattle.dd_record.specs.declared.row.ARow.{ARow}
 use Rattle.dd_serve.specs.declared.cache.Cache.{Cache}
 use Rattle.dd_serve.specs.Rows.{Listed, has_slot, linked_block}
-use Rattle.dd_serve.specs.Holds.{Located, Sound, LinkHolds, Confirms, slot_block, slot_at, block_of, array_of, state_of, IsSound}
+use Rattle.dd_serve.specs.Holds.{Located, Sound, LinkHolds, Confirms, slot_block, slot_at, block_of, state_of, IsSound}
 use Rattle.dd_serve.proofs.Listed.{number_other, listed_all, clash, has_head, has_weaker}
 use Rattle.dd_serve.proofs.Refine.{of, same_block}
 use Rattle.dd_serve.proofs.Locates.{linked_known, known_here, known_nowhere, array_is, not_equal}

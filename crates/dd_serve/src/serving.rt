@@ -2,7 +2,8 @@
 ghost use Rattle.std.specs.Prelude.{◌≡◌, ◌+◌, ◌<◌, ◌≤◌, ◌^◌, length, Err, IfSome, IfOk, OnOk, OnErr, IfErr};
 ghost use Rattle.dd_rig.specs.Counts.{NeverFalls, Rose};
 ghost use Rattle.dd_rig.specs.World as world;
-ghost use Rattle.dd_rig.specs.World.{SaysSome};
+ghost use Rattle.dd_rig.specs.World.{SaysSome, WithinEmit};
+ghost use Rattle.dd_rig.specs.Clock.{Elapses};
 ghost use Rattle.dd_script.specs.Line.{told, IsBelow};
 ghost use Rattle.dd_script.specs.Script.{commands_of, EndsWithin};
 ghost use Rattle.dd_script.specs.Command.{read};
@@ -11,7 +12,7 @@ ghost use Rattle.dd_serve.specs.Asks.{Asks};
 ghost use Rattle.dd_serve.specs.Causes.{Caused, Halts, ScriptHalts};
 ghost use Rattle.dd_serve.specs.Holds.{Fits, IsSound, OnlyFlash, state_of, sizes_of};
 ghost use Rattle.dd_serve.specs.Reading.{left, fuel, fronted, quits, BurnsUnlessQuit, Bounds};
-ghost use Rattle.dd_serve.specs.Run.{IsIdle};
+ghost use Rattle.dd_serve.specs.Saying.{IsIdle};
 ghost use Rattle.dd_serve.specs.Serving.{AnswersLine, WritesAnswer, WritesLine, HaltsByFlash, CutsLine, ServedAll, ServedUpTo};
 
 use crate::cache::{Cache, CacheFault};
@@ -233,6 +234,7 @@ pub fn say<R: Rig>(rig: &mut R, piece: &[u8]) -> Result<(), Halt>
     ensures said { R.tells → OnOk result (R.world rig.new ≡ world.say piece.now (R.world rig.old)) }
     ensures part { R.tells → SaysSome piece.now (R.world rig.old) (R.world rig.new) }
     ensures others { R.tells → ((R.world rig.new).flash ≡ (R.world rig.old).flash) × ((R.world rig.new).disk ≡ (R.world rig.old).disk) }
+    ensures time { R.tells → Elapses (R.clock rig.old) (R.clock rig.new) (WithinEmit piece.now (R.world rig.old)) }
     ensures idle { IsIdle (R.counts rig.old) (R.counts rig.new) }
     ensures later { NeverFalls (R.counts rig.old) (R.counts rig.new) }
     ensures halt { OnErr result (result ≡ Err Output) }

@@ -1,4 +1,4 @@
-use Rattle.std.proofs.Common.{◌≡◌, ℕ, List, true, false, Bool, subst, sym, refl, ◌∙◌}
+use Rattle.std.proofs.Common.{◌≡◌, ℕ, List, true, false, Bool, subst, sym, refl, ◌∙◌, arith}
 use mir.Val.{bool_byte}
 use Rattle.dd_rig.specs.declared.tallies.Counts.{Counts}
 use Rattle.dd_rig.specs.Counts.{NeverFalls}
@@ -8,12 +8,13 @@ use Rattle.dd_script.specs.Text.{stop_text}
 use Rattle.dd_serve.specs.declared.halt.Halt.TheVariants.{Stopped}
 use Rattle.dd_serve.specs.Causes.{Halts}
 use Rattle.dd_serve.specs.Serving.{ServedAll, ServedUpTo}
-use Rattle.dd_serve.specs.Run.{IsIdle, Serves, SaysAlone, IsBounded, replay_sizes, replay_start, replay_commands, replay_blocks}
+use Rattle.dd_serve.specs.Saying.{IsIdle, SaysAlone}
+use Rattle.dd_serve.specs.Run.{Serves, IsBounded, replay_sizes, replay_start, replay_commands, replay_blocks}
 use Rattle.dd_serve.proofs.Causes.{falls_self}
 use Rattle.dd_serve.proofs.Going.{commands_some}
 use Rattle.dd_serve.proofs.Starts.{halts_by}
 use Rattle.dd_serve.proofs.Ending.{status_for, serves_all, serves_cut, stops_alone, stops_served, stops_early}
-use Rattle.dd_serve.proofs.top.serve_plan.Goals as goal
+use Rattle.dd_serve.proofs.replay.serve_plan.Goals as goal
 
 byte_is : (b : Bool) → status_for b ≡ bool_byte b
 byte_is true = refl
@@ -24,7 +25,7 @@ returns-in_default-clause-memory g c = λ t e.
     let counts = c.in_default.ensures.early_counts in
     let world = c.in_default.ensures.early t in
     subst (λ (w : World). SaysAlone (stop_text stop.Memory) (g.R.Rig.counts c.args.rig.now) (g.R.Rig.counts c.end.new.rig) w (g.R.Rig.world c.end.new.rig)) world
-    (subst (λ (k : Counts). SaysAlone (stop_text stop.Memory) k (g.R.Rig.counts c.end.new.rig) (g.R.Rig.world c.replay.new.rig) (g.R.Rig.world c.end.new.rig)) counts (c.end.ensures.said t))
+    (subst (λ (k : Counts). SaysAlone (stop_text stop.Memory) k (g.R.Rig.counts c.end.new.rig) (g.R.Rig.world c.serve_script.new.rig) (g.R.Rig.world c.end.new.rig)) counts (c.end.ensures.said t))
 
 pub returns-in_default-clause-served : goal.returns-in_default-clause-served
 returns-in_default-clause-served g c = λ t u.
@@ -37,19 +38,19 @@ returns-in_default-clause-served g c = λ t u.
     let counts = c.in_default.ensures.early_counts in
     let world = c.in_default.ensures.early t in
     let said : SaysAlone (stop_text stop.Memory) before end old new = subst (λ (w : World). SaysAlone (stop_text stop.Memory) before end w new) world
-    (subst (λ (k : Counts). SaysAlone (stop_text stop.Memory) k end (g.R.Rig.world c.replay.new.rig) new) counts (c.end.ensures.said t)) in
+    (subst (λ (k : Counts). SaysAlone (stop_text stop.Memory) k end (g.R.Rig.world c.serve_script.new.rig) new) counts (c.end.ensures.said t)) in
     let later = subst (λ (k : Counts). NeverFalls k end) counts c.end.ensures.later in
     let idle = subst (λ (k : Counts). IsIdle k end) counts c.end.ensures.idle in
     subst (λ (n : ℕ). Serves print c.args.plan n script old new before end) (sym c.end.ensures.status)
-    (stops_alone print c.args.plan script old before stop.Memory old new before end (falls_self before) later idle (stops_early print c.args.plan script old before (commands_some (replay_blocks c.args.plan old) script)) said)
+    (stops_alone print c.args.plan script old before stop.Memory old new before end (falls_self before) later idle (stops_early print c.args.plan script old before stop.Memory before (falls_self before) (omega arith) refl (λ e. omega arith) (commands_some (replay_blocks c.args.plan old) script)) said)
 
 pub returns-in-Ok-served-clause-served : goal.returns-in-Ok-served-clause-served
 returns-in-Ok-served-clause-served g c = λ t u.
     let print = g.F.Fingerprint.printed c.args.print.now in
     let old : World = g.R.Rig.world c.args.rig.now in
-    let new : World = g.R.Rig.world c.replay.new.rig in
+    let new : World = g.R.Rig.world c.serve_script.new.rig in
     let before : Counts = g.R.Rig.counts c.args.rig.now in
-    let end : Counts = g.R.Rig.counts c.replay.new.rig in
+    let end : Counts = g.R.Rig.counts c.serve_script.new.rig in
     let script : List ℕ = g.S.Source.rest c.args.source.now in
     let faulted : Bool = c.in-Ok-served.faulted in
     let served : ServedAll print (replay_sizes c.args.plan old) (replay_start c.args.plan old) (replay_commands c.args.plan old script) faulted old.said new.said before end = rw c.in-Ok-served.is at (c.in-Ok.ensures.all t u) in
@@ -61,9 +62,9 @@ pub returns-in-Output-clause-served : goal.returns-in-Output-clause-served
 returns-in-Output-clause-served g c = λ t u.
     let print = g.F.Fingerprint.printed c.args.print.now in
     let old : World = g.R.Rig.world c.args.rig.now in
-    let new : World = g.R.Rig.world c.replay.new.rig in
+    let new : World = g.R.Rig.world c.serve_script.new.rig in
     let before : Counts = g.R.Rig.counts c.args.rig.now in
-    let end : Counts = g.R.Rig.counts c.replay.new.rig in
+    let end : Counts = g.R.Rig.counts c.serve_script.new.rig in
     let script : List ℕ = g.S.Source.rest c.args.source.now in
     serves_cut print c.args.plan script old before new end (rw c.in-Output.is at (rw c.in-Err.is at (c.in-Ok.ensures.some t u))) (rw c.in-Output.is at (rw c.in-Err.is at c.in-Ok.ensures.halt))
 
@@ -71,19 +72,19 @@ pub returns-in-Stopped-clause-served : goal.returns-in-Stopped-clause-served
 returns-in-Stopped-clause-served g c = λ t u.
     let print = g.F.Fingerprint.printed c.args.print.now in
     let old : World = g.R.Rig.world c.args.rig.now in
-    let middle : World = g.R.Rig.world c.replay.new.rig in
+    let middle : World = g.R.Rig.world c.serve_script.new.rig in
     let new : World = g.R.Rig.world c.end-in-Stopped.new.rig in
     let before : Counts = g.R.Rig.counts c.args.rig.now in
-    let between : Counts = g.R.Rig.counts c.replay.new.rig in
+    let between : Counts = g.R.Rig.counts c.serve_script.new.rig in
     let end : Counts = g.R.Rig.counts c.end-in-Stopped.new.rig in
     let script : List ℕ = g.S.Source.rest c.args.source.now in
     let failures = g.S.Source.failures in
     let why = c.in-Stopped.why in
     let P : Type 0 = g.R.Rig.tells → g.S.Source.tells → IsBounded c.args.plan old script → ⊥ in
     let Q : Type 0 = IsBounded c.args.plan old script → ⊥ in
-    let halts : Halts P (Stopped why) before between (failures c.args.source.now) (failures c.replay.new.source) = rw c.in-Stopped.is at (rw c.in-Err.is at c.in-Ok.ensures.halt) in
-    let halted : Halts Q (Stopped why) before between (failures c.args.source.now) (failures c.replay.new.source) = halts_by P Q (λ long. long t u) (Stopped why) before between _ _ halts in
+    let halts : Halts P (Stopped why) before between (failures c.args.source.now) (failures c.serve_script.new.source) = rw c.in-Stopped.is at (rw c.in-Err.is at c.in-Ok.ensures.halt) in
+    let halted : Halts Q (Stopped why) before between (failures c.args.source.now) (failures c.serve_script.new.source) = halts_by P Q (λ long. long t u) (Stopped why) before between _ _ halts in
     let served : ServedUpTo print (replay_sizes c.args.plan old) (replay_start c.args.plan old) (replay_commands c.args.plan old script) (Stopped why) old.said middle.said before between = rw c.in-Stopped.is at (rw c.in-Err.is at (c.in-Ok.ensures.some t u)) in
     subst (λ (n : ℕ). Serves print c.args.plan n script old new before end) (sym (c.end-in-Stopped.ensures.status ∙ c.status_of.ensures))
-    (stops_alone print c.args.plan script old before why middle new between end c.replay.ensures.later c.end-in-Stopped.ensures.later c.end-in-Stopped.ensures.idle
+    (stops_alone print c.args.plan script old before why middle new between end c.serve_script.ensures.later c.end-in-Stopped.ensures.later c.end-in-Stopped.ensures.idle
     (stops_served print c.args.plan script old before why middle between _ _ served halted) (c.end-in-Stopped.ensures.said t))

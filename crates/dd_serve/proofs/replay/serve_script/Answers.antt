@@ -12,7 +12,7 @@ use Rattle.dd_serve.specs.Reading.{Held, left, fuel}
 use Rattle.dd_serve.specs.Run.{first_cache, IsBounded}
 use Rattle.dd_serve.specs.Serving.{ServedAll, ServedUpTo}
 use Rattle.dd_serve.proofs.Starts.{first_some, first_fits, first_sound, halts_by}
-use Rattle.dd_serve.proofs.top.replay.Goals as goal
+use Rattle.dd_serve.proofs.replay.serve_script.Goals as goal
 
 abbrev nothing_held : Held
 nothing_held = record { bytes = []; taken = 0; ended = false }

@@ -1,0 +1,66 @@
+-- Words ask for one thing.
+use Rattle.std.specs.Prelude.{Option, MatchOption, option_map, if◌then◌else◌, codes, get_or}
+use Rattle.std.specs.Str.{bytes_eq}
+use Rattle.std.proofs.Common.{◌≡◌, ℕ, List, [], ◌∷◌, length, refl, Some, None, ap, arith}
+use Rattle.dd_block.specs.declared.geometry.Geometry.{Geometry}
+use Rattle.dd_block.proofs.Geometries.{same_geometry}
+use Rattle.dd_serve.specs.declared.words.Plan.{Plan}
+use Rattle.dd_serve.specs.declared.words.Asked.{Asked}
+use Rattle.dd_serve.specs.declared.words.Asked.TheVariants.{Replay, Format}
+use Rattle.dd_serve.specs.Words.{plan_of, plan_of_numbers, AsksFor, AsksFormat, AsksNoFormat, IsReplay}
+
+-- a replay has four words
+four_words : (words : List (List ℕ)) (plan : Plan) → plan_of words ≡ Some plan → length words ≡ 4
+four_words [] plan e = absurd (cc)
+four_words (a ∷ []) plan e = absurd (cc)
+four_words (a ∷ b ∷ []) plan e = absurd (cc)
+four_words (a ∷ b ∷ d ∷ []) plan e = absurd (cc)
+four_words (a ∷ b ∷ d ∷ f ∷ []) plan e = refl
+four_words (a ∷ b ∷ d ∷ f ∷ g ∷ words) plan e = absurd (cc)
+
+same_plan : (words : List (List ℕ)) (p q : Plan) → plan_of words ≡ Some p → plan_of words ≡ Some q → Replay p ≡ Replay q
+same_plan words p q h k = cc
+
+not_both : {A : Type 0} (words : List (List ℕ)) (plan : Plan) (geo : Geometry) → plan_of words ≡ Some plan → AsksFormat words geo → A
+not_both words plan geo h k = absurd (omega (arith, four_words words plan h, k.eight))
+
+some_same : (o : Option ℕ) (m n : ℕ) → o ≡ Some m → o ≡ Some n → m ≡ n
+some_same o m n h k = cc
+
+same_numbers : (words : List (List ℕ)) (g h : Geometry) → AsksFormat words g → AsksFormat words h → g ≡ h
+same_numbers words g h a b = same_geometry g h
+    (some_same _ _ _ a.block b.block) (some_same _ _ _ a.blocks b.blocks) (some_same _ _ _ a.acap b.acap) (some_same _ _ _ a.bcap b.bcap)
+    (some_same _ _ _ a.spare b.spare) (some_same _ _ _ a.group b.group) (some_same _ _ _ a.log b.log)
+
+pub same_asked : (words : List (List ℕ)) (one other : Asked) → AsksFor words one → AsksFor words other → one ≡ other
+same_asked words (Replay p) (Replay q) h k = same_plan words p q h k
+same_asked words (Replay p) (Format g) h k = not_both words p g h k
+same_asked words (Format g) (Replay p) h k = not_both words p g k h
+same_asked words (Format g) (Format h) a b = ap Format (same_numbers words g h a b)
+
+pub is_replay : (words : List (List ℕ)) (asked : Asked) → AsksFor words asked → AsksNoFormat words → IsReplay asked
+is_replay words (Replay p) h none = tt
+is_replay words (Format g) h none = none g h
+
+pub same_format : (asked : Asked) (g h : Geometry) → asked ≡ Format g → asked ≡ Format h → g ≡ h
+same_format asked g h a b = cc
+
+-- what four words ask for
+pub plan_words : (words : List (List ℕ)) → length words ≡ 4 → plan_of words ≡ (if bytes_eq (get_or words 0 []) (codes "replay") then plan_of_numbers (get_or words 1 []) (get_or words 2 []) (get_or words 3 []) else None)
+plan_words [] e = absurd (omega (arith, e))
+plan_words (a ∷ []) e = absurd (omega (arith, e))
+plan_words (a ∷ b ∷ []) e = absurd (omega (arith, e))
+plan_words (a ∷ b ∷ d ∷ []) e = absurd (omega (arith, e))
+plan_words (a ∷ b ∷ d ∷ f ∷ []) e = refl
+plan_words (a ∷ b ∷ d ∷ f ∷ g ∷ words) e = absurd (omega (arith, e))
+
+-- words that ask for neither ask for nothing
+pub asks_nothing : (words : List (List ℕ)) → plan_of words ≡ None → AsksNoFormat words → (asked : Asked) → AsksFor words asked → ⊥
+asks_nothing words none no_format (Replay p) h = absurd (cc)
+asks_nothing words none no_format (Format g) h = no_format g h
+
+-- the geometry, where there is one
+pub asks_rest : (words : List (List ℕ)) (o : Option Geometry) → plan_of words ≡ None → MatchOption o (AsksNoFormat words) (λ geo. AsksFormat words geo)
+    → MatchOption (option_map Format o) ((asked : Asked) → AsksFor words asked → ⊥) (λ asked. AsksFor words asked)
+asks_rest words None none h = asks_nothing words none h
+asks_rest words (Some geo) none h = h

@@ -1,0 +1,63 @@
+-- A format: what its status says, and what a crash may leave.
+use Rattle.std.specs.Prelude.{◌≡◌, ◌⊎◌, ◌≤◌, ◌+◌, ◌++◌, ℕ, List}
+use Rattle.dd_block.specs.declared.print.Fp.{Fp}
+use Rattle.dd_block.specs.declared.geometry.Geometry.{Geometry}
+use Rattle.dd_rig.specs.declared.tallies.Counts.{Counts}
+use Rattle.dd_rig.specs.Clock.{Clock, Elapses}
+use Rattle.dd_rig.specs.Device.{IsImage}
+use Rattle.dd_rig.specs.World.{World}
+use Rattle.dd_recover.specs.Formatting.{IsFormatted, IsUnusedOrFormatted, IsOwn}
+use Rattle.dd_recover.specs.declared.fault.FormatFault.{FormatFault}
+use Rattle.dd_recover.specs.declared.fault.FormatFault.TheVariants as fault
+use Rattle.dd_script.specs.declared.reply.Reply.{Reply}
+use Rattle.dd_script.specs.declared.reply.Reply.TheVariants as reply
+use Rattle.dd_script.specs.declared.reply.Refusal.TheVariants as refusal
+use Rattle.dd_script.specs.declared.reply.Stop.TheVariants as stop
+use Rattle.dd_script.specs.Text.{ended, reply_text}
+use Rattle.dd_serve.specs.Saying.{SaysAlone}
+
+-- the last line of a format that failed
+abbrev pub reply_to : FormatFault → Reply
+reply_to (fault.FlashSmall need have) = reply.Refused (refusal.FlashSmall need have)
+reply_to (fault.DiskSmall need have) = reply.Refused (refusal.DiskSmall need have)
+reply_to fault.InUse = reply.Refused refusal.InUse
+reply_to fault.FlashRead = reply.Stopped stop.Flash
+reply_to fault.FlashWrite = reply.Stopped stop.Flash
+reply_to fault.DiskWrite = reply.Stopped stop.Disk
+
+-- and its status
+abbrev pub fault_status : FormatFault → ℕ
+fault_status (fault.FlashSmall need have) = 3
+fault_status (fault.DiskSmall need have) = 3
+fault_status fault.InUse = 3
+fault_status fault.FlashRead = 7
+fault_status fault.FlashWrite = 7
+fault_status fault.DiskWrite = 7
+
+-- how a format may end
+abbrev pub IsFormatStatus : ℕ → Type 0
+IsFormatStatus status = (status ≡ 0) ⊎ (status ≡ 3) ⊎ (status ≡ 6) ⊎ (status ≡ 7)
+
+-- a format makes at most one read of the flash, seven writes and syncs of it with 99 bytes together, and one sync of the disk
+pub record CallsOfFormat (before after : Counts) : Type 0 where
+  pub flash_reads : after.flash.reads ≤ before.flash.reads + 1
+  pub flash_writes : after.flash.writes ≤ before.flash.writes + 7
+  pub flash_written : after.flash.written ≤ before.flash.written + 99
+  pub disk_reads : after.disk.reads ≡ before.disk.reads
+  pub disk_writes : after.disk.writes ≤ before.disk.writes + 1
+  pub disk_written : after.disk.written ≡ before.disk.written
+
+-- whatever a crash leaves now stands for the disk's array, empty lists and no references
+abbrev pub AreFormatted : Geometry → (old new : World) → Type 0
+AreFormatted geo old new = (print : List ℕ → Fp) (flash disk : List ℕ) → IsImage new.flash flash → IsImage new.disk disk → IsFormatted print geo old flash disk
+
+-- What a format has done: with 0 it said `formatted` and nothing else, with 6 this line was cut, and with both the devices are formatted.
+pub record Formats (geo : Geometry) (status : ℕ) (before after : Counts) (old new : World) : Type 0 where
+  pub exact : status ≡ 0 → new.said ≡ old.said ++ ended (reply_text reply.Formatted)
+  pub cut : status ≡ 6 → SaysAlone (reply_text reply.Formatted) before after old new
+  pub done : (status ≡ 0) ⊎ (status ≡ 6) → AreFormatted geo old new
+
+-- a crash within a format leaves what one before it might have left, a flash that isn't in use, or devices that are formatted
+abbrev pub FormatLeaves : Geometry → World → Clock → Clock → Type 0
+FormatLeaves geo old first last =
+    (print : List ℕ → Fp) → Elapses first last (λ o. IsOwn old o.flash o.disk ⊎ IsUnusedOrFormatted print geo old o.flash o.disk)

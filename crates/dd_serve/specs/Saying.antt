@@ -1,0 +1,20 @@
+-- What a run has said and asked of its devices.
+use Rattle.std.specs.Prelude.{◌≡◌, ◌⊎◌, ◌≤◌, ◌+◌, ℕ, List, ◌++◌, take}
+use Rattle.dd_rig.specs.declared.tallies.Counts.{Counts}
+use Rattle.dd_rig.specs.Counts.{Rose}
+use Rattle.dd_rig.specs.World.{World}
+use Rattle.dd_recover.specs.Formatting.{IsUnwritten}
+use Rattle.dd_script.specs.Text.{ended}
+
+-- that line alone was said, or an emit failed and a part of it was
+abbrev pub SaysAlone : List ℕ → Counts → Counts → World → World → Type 0
+SaysAlone line before after old new =
+    (new.said ≡ old.said ++ ended line) ⊎ (Rose before.failed_emits after.failed_emits × (n : ℕ) × (new.said ≡ old.said ++ take n (ended line)))
+
+-- no call was made on a device
+abbrev pub IsIdle : Counts → Counts → Type 0
+IsIdle before after = (after.flash ≡ before.flash) × (after.disk ≡ before.disk)
+
+-- no write and no sync was made on a device, and no read but one of the flash
+abbrev pub OnlyLooks : Counts → Counts → Type 0
+OnlyLooks before after = IsUnwritten before after × (after.flash.reads ≤ before.flash.reads + 1) × (after.disk.reads ≡ before.disk.reads)

@@ -1,0 +1,82 @@
+// Formatting the flash.
+ghost use Rattle.std.specs.Prelude.{◌≡◌, ◌⊎◌, ◌++◌, None, ℕ};
+ghost use Rattle.dd_rig.specs.Clock.{Elapses};
+ghost use Rattle.dd_rig.specs.Counts.{Rose};
+ghost use Rattle.dd_rig.specs.declared.device.Dev.TheVariants.{Flash as FlashDevice, Disk as DiskDevice};
+ghost use Rattle.dd_rig.specs.World.{World, shown};
+ghost use Rattle.dd_recover.specs.Formatting.{IsOwn};
+ghost use Rattle.dd_script.specs.declared.reply.Reply.TheVariants as reply;
+ghost use Rattle.dd_script.specs.Text.{ended, reply_text};
+ghost use Rattle.dd_serve.specs.Saying.{IsIdle, OnlyLooks, SaysAlone};
+ghost use Rattle.dd_serve.specs.Formats.{CallsOfFormat, Formats, FormatLeaves, IsFormatStatus, reply_to, fault_status};
+ghost use Rattle.dd_serve.specs.Refusing.{Refuses, StopsAtDevice, small_for, refusal_for};
+ghost use Rattle.dd_serve.specs.declared.words.Asked.TheVariants.{Format};
+
+use crate::last_line::end;
+use crate::serving::say;
+use dd_block::Geometry;
+use dd_recover::{FormatFault, format_flash};
+use dd_rig::Rig;
+use dd_script::{REPLY_ROOM, Refusal, Reply, Stop, write_reply};
+
+/// Formats the flash of devices that are large enough, says one line, and answers the status.
+pub fn run_format<R: Rig>(geo: Geometry, rig: &mut R) -> u8
+    requires { small_for (Format geo) (R.device_size rig.old) ≡ None }
+    ensures status { IsFormatStatus result }
+    ensures refused { R.tells → Refuses (refusal_for (Format geo) (R.device_size rig.old) (shown FlashDevice (R.world rig.old))) result (R.counts rig.old) (R.counts rig.new) (R.world rig.old) (R.world rig.new) }
+    ensures emit { result ≡ 6 → Rose (R.counts rig.old).failed_emits (R.counts rig.new).failed_emits }
+    ensures device { result ≡ 7 → StopsAtDevice (Format geo) (λ line. R.tells → SaysAlone line (R.counts rig.old) (R.counts rig.new) (R.world rig.old) (R.world rig.new)) (R.counts rig.old) (R.counts rig.new) }
+    ensures looks { result ≡ 3 → OnlyLooks (R.counts rig.old) (R.counts rig.new) }
+    ensures calls { CallsOfFormat (R.counts rig.old) (R.counts rig.new) }
+    ensures formatted { R.tells → Formats geo result (R.counts rig.old) (R.counts rig.new) (R.world rig.old) (R.world rig.new) }
+    ensures crash { R.tells → FormatLeaves geo (R.world rig.old) (R.clock rig.old) (R.clock rig.new) }
+    ensures disk { R.tells → shown DiskDevice (R.world rig.new) ≡ shown DiskDevice (R.world rig.old) }
+{
+    match format_flash(rig, geo) {
+        Ok(()) => say_formatted(rig),
+        Err(fault) => end(rig, reply_to(fault), fault_status(fault)),
+    }
+}
+
+// The line of a flash that was formatted. 6: it couldn't be said.
+fn say_formatted<R: Rig>(rig: &mut R) -> u8
+    ensures status { (result ≡ 0) ⊎ (result ≡ 6) }
+    ensures said { R.tells → SaysAlone (reply_text reply.Formatted) (R.counts rig.old) (R.counts rig.new) (R.world rig.old) (R.world rig.new) }
+    ensures exact { R.tells → result ≡ 0 → (R.world rig.new).said ≡ (R.world rig.old).said ++ ended (reply_text reply.Formatted) }
+    ensures emit { result ≡ 6 → Rose (R.counts rig.old).failed_emits (R.counts rig.new).failed_emits }
+    ensures devices { R.tells → ((R.world rig.new).flash ≡ (R.world rig.old).flash) × ((R.world rig.new).disk ≡ (R.world rig.old).disk) }
+    ensures time { R.tells → Elapses (R.clock rig.old) (R.clock rig.new) (λ o. IsOwn (R.world rig.old) o.flash o.disk) }
+    ensures idle { IsIdle (R.counts rig.old) (R.counts rig.new) }
+{
+    let mut text = [0u8; REPLY_ROOM];
+    let size = write_reply(Reply::Formatted, &mut text);
+    match say(rig, &text[..size]) {
+        Ok(()) => 0,
+        Err(_) => 6,
+    }
+}
+
+// The last line of a format that failed.
+fn reply_to(fault: FormatFault) -> Reply
+    ensures { result ≡ reply_to fault }
+{
+    match fault {
+        FormatFault::FlashSmall { need, have } => {
+            Reply::Refused(Refusal::FlashSmall { need, have })
+        }
+        FormatFault::DiskSmall { need, have } => Reply::Refused(Refusal::DiskSmall { need, have }),
+        FormatFault::InUse => Reply::Refused(Refusal::InUse),
+        FormatFault::FlashRead | FormatFault::FlashWrite => Reply::Stopped(Stop::Flash),
+        FormatFault::DiskWrite => Reply::Stopped(Stop::Disk),
+    }
+}
+
+// And its status.
+fn fault_status(fault: FormatFault) -> u8
+    ensures { result ≡ fault_status fault }
+{
+    match fault {
+        FormatFault::FlashSmall { .. } | FormatFault::DiskSmall { .. } | FormatFault::InUse => 3,
+        FormatFault::FlashRead | FormatFault::FlashWrite | FormatFault::DiskWrite => 7,
+    }
+}

@@ -1,0 +1,175 @@
+// Serving the reads of a script, with the flash as scratch.
+ghost use Rattle.std.specs.Prelude.{◌≡◌, ◌≢◌, ◌⊎◌, ◌==◌, ◌≤◌, None, ℕ, slice_index, IfOk, OnOk, OnErr, IfErr};
+ghost use Rattle.dd_rig.specs.Counts.{Rose, NeverFalls, count_read};
+ghost use Rattle.dd_rig.specs.declared.device.Dev.TheVariants.{Flash as FlashDevice, Disk as DiskDevice};
+ghost use Rattle.dd_rig.specs.World.{shown};
+ghost use Rattle.dd_script.specs.Text.{stop_text};
+ghost use Rattle.dd_script.specs.declared.reply.Stop.TheVariants.{Memory};
+ghost use Rattle.dd_serve.specs.declared.words.Asked.TheVariants.{Replay};
+ghost use Rattle.dd_serve.specs.Causes.{Halts};
+ghost use Rattle.dd_serve.specs.Words.{IsPlan};
+ghost use Rattle.dd_serve.specs.Saying.{IsIdle, OnlyLooks, SaysAlone};
+ghost use Rattle.dd_serve.specs.Refusing.{Refuses, StopsAtDevice, small_for, refusal_for};
+ghost use Rattle.dd_serve.specs.Serving.{ServedAll, ServedUpTo};
+ghost use Rattle.dd_serve.specs.Run.{Serves, status_of, IsBounded, first_cache, replay_sizes, replay_start, replay_commands};
+
+use crate::cache::Cache;
+use crate::halt::Halt;
+use crate::last_line::end;
+use crate::reader::{LINE_ROOM, Reader};
+use crate::serving::serve;
+use crate::words::Plan;
+use dd_block::Fingerprint;
+use dd_rig::{Dev, Failed, Rig, Source};
+use dd_script::{REPLY_ROOM, Refusal, Reply, Stop};
+use std::alloc::{AllocError, Global};
+
+/// The greatest number of blocks.
+const MOST_BLOCKS: u64 = 16_777_216;
+
+/// Serves the script over devices that are large enough, and answers the status. A flash in use is
+/// refused.
+pub fn run_replay<F: Fingerprint, R: Rig, S: Source>(
+    alloc: Global,
+    plan: Plan,
+    source: &mut S,
+    rig: &mut R,
+    print: &F,
+) -> u8
+    requires plan { IsPlan plan }
+    requires large { small_for (Replay plan) (R.device_size rig.old) ≡ None }
+    ensures status { (result ≤ 8) × (result ≢ 2) }
+    ensures refused { R.tells → Refuses (refusal_for (Replay plan) (R.device_size rig.old) (shown FlashDevice (R.world rig.old))) result (R.counts rig.old) (R.counts rig.new) (R.world rig.old) (R.world rig.new) }
+    ensures script { result ≡ 5 → Rose (S.failures source.old) (S.failures source.new) }
+    ensures emit { result ≡ 6 → Rose (R.counts rig.old).failed_emits (R.counts rig.new).failed_emits }
+    ensures device { result ≡ 7 → StopsAtDevice (Replay plan) (λ line. R.tells → SaysAlone line (R.counts rig.old) (R.counts rig.new) (R.world rig.old) (R.world rig.new)) (R.counts rig.old) (R.counts rig.new) }
+    ensures memory { R.tells → result ≡ 4 → SaysAlone (stop_text Memory) (R.counts rig.old) (R.counts rig.new) (R.world rig.old) (R.world rig.new) }
+    ensures served { R.tells → S.tells → refusal_for (Replay plan) (R.device_size rig.old) (shown FlashDevice (R.world rig.old)) ≡ None
+        → Serves (F.printed print.now) plan result (S.rest source.old) (R.world rig.old) (R.world rig.new) (R.counts rig.old) (R.counts rig.new) }
+    ensures disk { R.tells → (R.world rig.new).disk ≡ (R.world rig.old).disk }
+    ensures untouched { (R.counts rig.new).disk.writes ≡ (R.counts rig.old).disk.writes }
+    ensures looks { (result ≡ 3) ⊎ (result ≡ 4) → OnlyLooks (R.counts rig.old) (R.counts rig.new) }
+{
+    match is_in_use(rig) {
+        Err(_) => end(rig, Reply::Stopped(Stop::Flash), 7),
+        Ok(true) => end(rig, Reply::Refused(Refusal::InUse), 3),
+        Ok(false) => serve_plan(alloc, plan, source, rig, print),
+    }
+}
+
+// Whether byte 0 of the flash is 1.
+fn is_in_use<R: Rig>(rig: &mut R) -> Result<bool, Failed>
+    requires { 1 ≤ R.device_size rig.old FlashDevice }
+    ensures used { R.tells → IfOk result (λ used. used ≡ (slice_index (shown FlashDevice (R.world rig.old)) 0 == 1)) }
+    ensures world { R.tells → R.world rig.new ≡ R.world rig.old }
+    ensures counts { R.counts rig.new ≡ count_read FlashDevice result (R.counts rig.old) }
+    ensures later { NeverFalls (R.counts rig.old) (R.counts rig.new) }
+    ensures cause { OnErr result (Rose (R.counts rig.old).flash.failed_reads (R.counts rig.new).flash.failed_reads) }
+    ensures size { R.device_size rig.new ≡ R.device_size rig.old }
+{
+    let mut byte = [0];
+    rig.read(Dev::Flash, 0, &mut byte)?;
+    Ok(byte[0] == 1)
+}
+
+// Serves the script, and ends with the line of the status, where it has one.
+fn serve_plan<F: Fingerprint, R: Rig, S: Source>(
+    alloc: Global,
+    plan: Plan,
+    source: &mut S,
+    rig: &mut R,
+    print: &F,
+) -> u8
+    requires plan { IsPlan plan }
+    requires large { small_for (Replay plan) (R.device_size rig.old) ≡ None }
+    ensures status { (result ≤ 8) × (result ≢ 2) × (result ≢ 3) }
+    ensures script { result ≡ 5 → Rose (S.failures source.old) (S.failures source.new) }
+    ensures emit { result ≡ 6 → Rose (R.counts rig.old).failed_emits (R.counts rig.new).failed_emits }
+    ensures device { result ≡ 7 → Rose (R.counts rig.old).flash.failed_writes (R.counts rig.new).flash.failed_writes }
+    ensures memory { R.tells → result ≡ 4 → SaysAlone (stop_text Memory) (R.counts rig.old) (R.counts rig.new) (R.world rig.old) (R.world rig.new) }
+    ensures served { R.tells → S.tells → Serves (F.printed print.now) plan result (S.rest source.old) (R.world rig.old) (R.world rig.new) (R.counts rig.old) (R.counts rig.new) }
+    ensures disk { R.tells → (R.world rig.new).disk ≡ (R.world rig.old).disk }
+    ensures untouched { (R.counts rig.new).disk.writes ≡ (R.counts rig.old).disk.writes }
+    ensures idle { result ≡ 4 → IsIdle (R.counts rig.old) (R.counts rig.new) }
+    ensures later { NeverFalls (R.counts rig.old) (R.counts rig.new) }
+{
+    let Ok(served) = serve_script(alloc, plan, source, rig, print) else {
+        return end(rig, Reply::Stopped(Stop::Memory), 4);
+    };
+    match served {
+        Ok(faulted) => u8::from(faulted),
+        Err(halt) => match halt {
+            Halt::Output => 6,
+            Halt::Stopped(why) => end(rig, Reply::Stopped(why), status_of(why)),
+        },
+    }
+}
+
+// The status of a run that stops.
+fn status_of(why: Stop) -> u8
+    ensures { result ≡ status_of why }
+{
+    match why {
+        Stop::Memory => 4,
+        Stop::Script => 5,
+        Stop::Flash | Stop::Disk => 7,
+        Stop::Length => 8,
+    }
+}
+
+// The cache at the start: nothing is listed.
+fn start<R: Rig>(alloc: Global, plan: Plan, rig: &R) -> Result<Cache, AllocError>
+    requires { IsPlan plan }
+    ensures { IfOk result (λ cache. cache ≡ first_cache plan (R.device_size rig.now DiskDevice)) }
+{
+    let count = rig.size(Dev::Disk) / u64::from(plan.block);
+    let blocks = if count < MOST_BLOCKS {
+        count as u32
+    } else {
+        MOST_BLOCKS as u32
+    };
+    Cache::new(alloc, plan.block, blocks, plan.acap, plan.bcap)
+}
+
+// Serves the script, or finds no memory for it.
+fn serve_script<F: Fingerprint, R: Rig, S: Source>(
+    alloc: Global,
+    plan: Plan,
+    source: &mut S,
+    rig: &mut R,
+    print: &F,
+) -> Result<Result<bool, Halt>, AllocError>
+    requires plan { IsPlan plan }
+    requires large { small_for (Replay plan) (R.device_size rig.old) ≡ None }
+    ensures all { R.tells → S.tells → IfOk result (λ served. IfOk served (λ faulted. ServedAll (F.printed print.now) (replay_sizes plan (R.world rig.old)) (replay_start plan (R.world rig.old))
+        (replay_commands plan (R.world rig.old) (S.rest source.old)) faulted (R.world rig.old).said (R.world rig.new).said (R.counts rig.old) (R.counts rig.new))) }
+    ensures some { R.tells → S.tells → IfOk result (λ served. IfErr served (λ halt. ServedUpTo (F.printed print.now) (replay_sizes plan (R.world rig.old)) (replay_start plan (R.world rig.old))
+        (replay_commands plan (R.world rig.old) (S.rest source.old)) halt (R.world rig.old).said (R.world rig.new).said (R.counts rig.old) (R.counts rig.new))) }
+    ensures bounded { R.tells → S.tells → IfOk result (λ served. OnOk served (IsBounded plan (R.world rig.old) (S.rest source.old))) }
+    ensures early { OnErr result (R.tells → R.world rig.new ≡ R.world rig.old) }
+    ensures early_counts { OnErr result (R.counts rig.new ≡ R.counts rig.old) }
+    ensures disk { R.tells → (R.world rig.new).disk ≡ (R.world rig.old).disk }
+    ensures untouched { (R.counts rig.new).disk.writes ≡ (R.counts rig.old).disk.writes }
+    ensures later { NeverFalls (R.counts rig.old) (R.counts rig.new) }
+    ensures halt { IfOk result (λ served. IfErr served (λ halt. Halts (R.tells → S.tells → IsBounded plan (R.world rig.old) (S.rest source.old) → ⊥) halt
+        (R.counts rig.old) (R.counts rig.new) (S.failures source.old) (S.failures source.new))) }
+{
+    let size = plan.block as usize;
+    let mut cache = start(alloc, plan, rig)?;
+    let mut reader = Reader::new(alloc)?;
+    let mut line = vec![in alloc; 0; LINE_ROOM]?;
+    let mut block = vec![in alloc; 0; size]?;
+    let mut scratch = vec![in alloc; 0; size]?;
+    let mut text = vec![in alloc; 0; REPLY_ROOM]?;
+    Ok(serve(
+        &mut cache,
+        &mut reader,
+        source,
+        rig,
+        print,
+        &mut line,
+        &mut block,
+        &mut scratch,
+        &mut text,
+    ))
+}
