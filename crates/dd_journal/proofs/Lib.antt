@@ -14,7 +14,7 @@ pub mod Reaching
 pub mod Replacing
 mod RowsRead
 mod RowsStand
-mod Sole
+pub mod Sole
 pub mod Standing
 pub mod Transfer
 pub mod Walked

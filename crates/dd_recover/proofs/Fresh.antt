@@ -1,5 +1,5 @@
 -- A formatted flash stands for the array that the disk shows, with empty lists.
-use Rattle.std.proofs.Common.{ℕ, ◌≤◌, List, [], ◌∷◌, length, refl, inl, arith}
+use Rattle.std.proofs.Common.{◌≡◌, ℕ, ◌≤◌, List, [], ◌∷◌, length, refl, inl, arith}
 use Rattle.std.specs.List.{IsDistinct}
 use Rattle.dd_block.specs.declared.print.Fp.{Fp}
 use Rattle.dd_block.specs.declared.geometry.Geometry.{Geometry}
@@ -10,7 +10,9 @@ use Rattle.dd_model.proofs.Arrays.{array_block, length-array_of}
 use Rattle.dd_journal.specs.Regions.{Reading, Spells, Counts}
 use Rattle.dd_journal.proofs.Standing.{front_stands, stands_byte}
 use Rattle.dd_rig.specs.World.{World}
-use Rattle.dd_recover.specs.Formatting.{IsFormatted, first_head, first_text, IsFresh}
+use Rattle.dd_store.specs.Meaning.{Stands}
+use Rattle.dd_store.proofs.Sole.{stands_one}
+use Rattle.dd_recover.specs.Formatting.{IsFormatted, formatted_state, first_head, first_text, IsFresh}
 
 abbrev first_reading : Geometry → Reading
 first_reading geo = record { geo = geo; region = 0; epoch = 1; count = 0; table = empty_table; groups = [] }
@@ -32,21 +34,31 @@ spells_first geo flash f = record {
   super = f.super;
 }
 
-pub formatted : (print : List ℕ → Fp) (geo : Geometry) (world : World) (flash : List ℕ) → IsFresh geo flash → disk_need geo ≤ length world.disk.shown → IsFormatted print geo world flash world.disk.shown
+stands_fresh : (print : List ℕ → Fp) (geo : Geometry) (flash disk : List ℕ) → IsFresh geo flash → disk_need geo ≤ length disk
+    → (here : Stands print flash disk (formatted_state geo disk)) × (here.geo ≡ geo)
 unfolding IsDistinct
-formatted print geo world flash f room = record {
-  stands = record {
+stands_fresh print geo flash disk f room = (
+  record {
     geo = geo;
     table = empty_table;
     count = 0;
     says = record { reading = first_reading geo; spells = spells_first geo flash f; geometry = refl; fit = (refl, refl); replayed = refl; counted = refl };
     disk_size = room;
     means = record {
-      array_length = length-array_of geo.block geo.blocks world.disk.shown;
+      array_length = length-array_of geo.block geo.blocks disk;
       lists = record { blocks = refl; distinct = tt; addresses = refl; counted = refl; linked = tt; b_prints = tt; a_prints = tt };
-      clean = λ address below not_dirty. array_block geo.block geo.blocks world.disk.shown address below;
+      clean = λ address below not_dirty. array_block geo.block geo.blocks disk address below;
     };
-  };
-  geometry = refl;
-  bytes = f;
-}
+  },
+  refl,
+)
+
+pub formatted : (print : List ℕ → Fp) (geo : Geometry) (world : World) (flash : List ℕ) → IsFresh geo flash → disk_need geo ≤ length world.disk.shown → IsFormatted print geo world flash world.disk.shown
+formatted print geo world flash f room =
+    let here = stands_fresh print geo flash world.disk.shown f room in
+    record {
+      stands = here.0;
+      only = λ s stands. stands_one print flash world.disk.shown s (formatted_state geo world.disk.shown) stands here.0;
+      geometry = here.1;
+      bytes = f;
+    }

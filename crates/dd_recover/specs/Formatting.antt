@@ -94,9 +94,11 @@ pub record IsFresh (geo : Geometry) (flash : List ℕ) : Type 0 where
   pub region : StandsAt (region_bytes geo flash 0) 0 first_text
   pub other : slice_index (region_bytes geo flash 1) 0 ≡ 0
 
--- both devices stand, by this geometry, for what the disk showed with empty lists, and the flash has the bytes of a fresh one
+-- both devices stand, by this geometry, for what the disk showed with empty lists and for nothing else, and the flash has the
+-- bytes of a fresh one
 pub record IsFormatted (print : List ℕ → Fp) (geo : Geometry) (old : World) (flash disk : List ℕ) : Type 0 where
   pub stands : Stands print flash disk (formatted_state geo (shown Disk old))
+  pub only : (s : State) → Stands print flash disk s → s ≡ formatted_state geo (shown Disk old)
   pub geometry : stands.geo ≡ geo
   pub bytes : IsFresh geo flash
 

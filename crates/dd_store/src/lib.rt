@@ -2,5 +2,6 @@
 //!
 //! `specs/Meaning` has the relation that every crash clause above ends in: the bytes of a flash and
 //! of a disk stand for an array, both recency lists and a count. It reads two whole images; it knows
-//! nothing of pending records, free slots or indexes. The calls of the store are still to come.
+//! nothing of pending records, free slots or indexes. Two devices stand for one state at most
+//! (`proofs/Sole`). The calls of the store are still to come.
 #![tactic(auto)]
