@@ -1,8 +1,12 @@
 -- A slot that is written, and the others.
-use Rattle.std.proofs.Common.{◌≡◌, ℕ, zero, suc, ◌+◌, ◌*◌, ◌<◌, ◌≤◌, List, [], ◌∷◌, length, take, drop, refl, ap, arith}
+use Rattle.std.proofs.Common.{◌≡◌, ℕ, zero, suc, ◌+◌, ◌*◌, ◌<◌, ◌≤◌, List, [], ◌∷◌, length, take, drop, refl, ◌∙◌, ap, arith, inl, inr}
+use Rattle.dd_rig.specs.declared.device.Dev.TheVariants.{Flash}
 use Rattle.dd_rig.specs.Device.{overwrite}
+use Rattle.dd_rig.specs.World.{World, ShowsSome}
+use Rattle.dd_serve.specs.Holds.{OnlyFlash}
+use Rattle.dd_serve.specs.Saying.{front_of}
 
-front_kept : (n at : ℕ) (bytes old : List ℕ) → n ≤ at → take n (overwrite at bytes old) ≡ take n old
+pub front_kept : (n at : ℕ) (bytes old : List ℕ) → n ≤ at → take n (overwrite at bytes old) ≡ take n old
 front_kept zero at bytes old h = refl
 front_kept (suc n) zero bytes old h = absurd (omega arith)
 front_kept (suc n) (suc at) bytes [] h = refl
@@ -36,3 +40,13 @@ part_here (suc at) bytes (x ∷ old) h = part_here at bytes old (omega arith)
 -- slots don't overlap
 pub slot_before : (s t n : ℕ) → s < t → s * n + n ≤ t * n
 slot_before s t n h = grind arith
+
+-- a write, failed or not, behind the first 64 bytes leaves them
+pub front_after : (at size : ℕ) (old new : World) → 64 ≤ at → ShowsSome Flash at size old new → front_of new ≡ front_of old
+front_after at size old new behind (inl same) = ap front_of same
+front_after at size old new behind (inr wrote) = ap front_of wrote.2 ∙ front_kept 64 at wrote.0 old.flash.shown behind
+
+-- what a write leaves that shows some bytes of the flash
+pub wrote_only_flash : (at size : ℕ) (old new : World) → 64 ≤ at → ShowsSome Flash at size old new → OnlyFlash old new
+wrote_only_flash at size old new behind (inl same) = record { disk = ap (λ (w : World). w.disk) same; said = ap (λ (w : World). w.said) same; front = front_after at size old new behind (inl same) }
+wrote_only_flash at size old new behind (inr wrote) = record { disk = ap (λ (w : World). w.disk) wrote.2; said = ap (λ (w : World). w.said) wrote.2; front = front_after at size old new behind (inr wrote) }

@@ -2,7 +2,8 @@
 use Rattle.std.specs.Prelude.{◌≡◌, ◌⊎◌, ◌≤◌, ◌+◌, ℕ, List, ◌++◌, take}
 use Rattle.dd_rig.specs.declared.tallies.Counts.{Counts}
 use Rattle.dd_rig.specs.Counts.{Rose}
-use Rattle.dd_rig.specs.World.{World}
+use Rattle.dd_rig.specs.declared.device.Dev.TheVariants.{Flash}
+use Rattle.dd_rig.specs.World.{World, shown}
 use Rattle.dd_recover.specs.Formatting.{IsUnwritten}
 use Rattle.dd_script.specs.Text.{ended}
 
@@ -18,3 +19,7 @@ IsIdle before after = (after.flash ≡ before.flash) × (after.disk ≡ before.d
 -- no write and no sync was made on a device, and no read but one of the flash
 abbrev pub OnlyLooks : Counts → Counts → Type 0
 OnlyLooks before after = IsUnwritten before after × (after.flash.reads ≤ before.flash.reads + 1) × (after.disk.reads ≡ before.disk.reads)
+
+-- what a read gives of the first 64 bytes of the flash
+abbrev pub front_of : World → List ℕ
+front_of world = take 64 (shown Flash world)

@@ -1,9 +1,11 @@
 // Formatting the flash.
-ghost use Rattle.std.specs.Prelude.{◌≡◌, ◌⊎◌, ◌++◌, None, ℕ};
+ghost use Rattle.std.specs.Prelude.{◌≡◌, ◌⊎◌, ◌+◌, ◌++◌, None, ℕ};
 ghost use Rattle.dd_rig.specs.Clock.{Elapses};
 ghost use Rattle.dd_rig.specs.Counts.{Rose};
 ghost use Rattle.dd_rig.specs.declared.device.Dev.TheVariants.{Flash as FlashDevice, Disk as DiskDevice};
 ghost use Rattle.dd_rig.specs.World.{World, shown};
+ghost use Rattle.dd_rig.specs.Leaves.{SameOutside};
+ghost use Rattle.dd_journal.specs.Sitting.{regions_size};
 ghost use Rattle.dd_recover.specs.Formatting.{IsOwn};
 ghost use Rattle.dd_script.specs.declared.reply.Reply.TheVariants as reply;
 ghost use Rattle.dd_script.specs.Text.{ended, reply_text};
@@ -30,6 +32,7 @@ pub fn run_format<R: Rig>(geo: Geometry, rig: &mut R) -> u8
     ensures calls { CallsOfFormat (R.counts rig.old) (R.counts rig.new) }
     ensures formatted { R.tells → Formats geo result (R.counts rig.old) (R.counts rig.new) (R.world rig.old) (R.world rig.new) }
     ensures crash { R.tells → FormatLeaves geo (R.world rig.old) (R.clock rig.old) (R.clock rig.new) }
+    ensures outside { R.tells → SameOutside 0 (64 + regions_size geo) (shown FlashDevice (R.world rig.old)) (shown FlashDevice (R.world rig.new)) }
     ensures disk { R.tells → shown DiskDevice (R.world rig.new) ≡ shown DiskDevice (R.world rig.old) }
 {
     match format_flash(rig, geo) {

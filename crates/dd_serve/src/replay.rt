@@ -8,7 +8,7 @@ ghost use Rattle.dd_script.specs.declared.reply.Stop.TheVariants.{Memory};
 ghost use Rattle.dd_serve.specs.declared.words.Asked.TheVariants.{Replay};
 ghost use Rattle.dd_serve.specs.Causes.{Halts};
 ghost use Rattle.dd_serve.specs.Words.{IsPlan};
-ghost use Rattle.dd_serve.specs.Saying.{IsIdle, OnlyLooks, SaysAlone};
+ghost use Rattle.dd_serve.specs.Saying.{IsIdle, OnlyLooks, SaysAlone, front_of};
 ghost use Rattle.dd_serve.specs.Refusing.{Refuses, StopsAtDevice, small_for, refusal_for};
 ghost use Rattle.dd_serve.specs.Serving.{ServedAll, ServedUpTo};
 ghost use Rattle.dd_serve.specs.Run.{Serves, status_of, IsBounded, first_cache, replay_sizes, replay_start, replay_commands};
@@ -47,6 +47,7 @@ pub fn run_replay<F: Fingerprint, R: Rig, S: Source>(
     ensures served { R.tells → S.tells → refusal_for (Replay plan) (R.device_size rig.old) (shown FlashDevice (R.world rig.old)) ≡ None
         → Serves (F.printed print.now) plan result (S.rest source.old) (R.world rig.old) (R.world rig.new) (R.counts rig.old) (R.counts rig.new) }
     ensures disk { R.tells → (R.world rig.new).disk ≡ (R.world rig.old).disk }
+    ensures front { R.tells → front_of (R.world rig.new) ≡ front_of (R.world rig.old) }
     ensures untouched { (R.counts rig.new).disk.writes ≡ (R.counts rig.old).disk.writes }
     ensures looks { (result ≡ 3) ⊎ (result ≡ 4) → OnlyLooks (R.counts rig.old) (R.counts rig.new) }
 {
@@ -89,6 +90,7 @@ fn serve_plan<F: Fingerprint, R: Rig, S: Source>(
     ensures memory { R.tells → result ≡ 4 → SaysAlone (stop_text Memory) (R.counts rig.old) (R.counts rig.new) (R.world rig.old) (R.world rig.new) }
     ensures served { R.tells → S.tells → Serves (F.printed print.now) plan result (S.rest source.old) (R.world rig.old) (R.world rig.new) (R.counts rig.old) (R.counts rig.new) }
     ensures disk { R.tells → (R.world rig.new).disk ≡ (R.world rig.old).disk }
+    ensures front { R.tells → front_of (R.world rig.new) ≡ front_of (R.world rig.old) }
     ensures untouched { (R.counts rig.new).disk.writes ≡ (R.counts rig.old).disk.writes }
     ensures idle { result ≡ 4 → IsIdle (R.counts rig.old) (R.counts rig.new) }
     ensures later { NeverFalls (R.counts rig.old) (R.counts rig.new) }
@@ -149,6 +151,7 @@ fn serve_script<F: Fingerprint, R: Rig, S: Source>(
     ensures early { OnErr result (R.tells → R.world rig.new ≡ R.world rig.old) }
     ensures early_counts { OnErr result (R.counts rig.new ≡ R.counts rig.old) }
     ensures disk { R.tells → (R.world rig.new).disk ≡ (R.world rig.old).disk }
+    ensures front { R.tells → front_of (R.world rig.new) ≡ front_of (R.world rig.old) }
     ensures untouched { (R.counts rig.new).disk.writes ≡ (R.counts rig.old).disk.writes }
     ensures later { NeverFalls (R.counts rig.old) (R.counts rig.new) }
     ensures halt { IfOk result (λ served. IfErr served (λ halt. Halts (R.tells → S.tells → IsBounded plan (R.world rig.old) (S.rest source.old) → ⊥) halt

@@ -12,7 +12,7 @@ ghost use Rattle.dd_serve.specs.Asks.{Asks};
 ghost use Rattle.dd_serve.specs.Causes.{Caused, Halts, ScriptHalts};
 ghost use Rattle.dd_serve.specs.Holds.{Fits, IsSound, OnlyFlash, state_of, sizes_of};
 ghost use Rattle.dd_serve.specs.Reading.{left, fuel, fronted, quits, BurnsUnlessQuit, Bounds};
-ghost use Rattle.dd_serve.specs.Saying.{IsIdle};
+ghost use Rattle.dd_serve.specs.Saying.{IsIdle, front_of};
 ghost use Rattle.dd_serve.specs.Serving.{AnswersLine, WritesAnswer, WritesLine, HaltsByFlash, CutsLine, ServedAll, ServedUpTo};
 
 use crate::cache::{Cache, CacheFault};
@@ -56,6 +56,7 @@ pub fn serve<F: Fingerprint, R: Rig, S: Source>(
         (commands_of cache.old.blocks (left reader.old (S.rest source.old))) halt (R.world rig.old).said (R.world rig.new).said (R.counts rig.old) (R.counts rig.new)) }
     ensures bounded { S.tells → OnOk result (EndsWithin (fuel reader.old) cache.old.blocks (left reader.old (S.rest source.old))) }
     ensures disk { R.tells → (R.world rig.new).disk ≡ (R.world rig.old).disk }
+    ensures front { R.tells → front_of (R.world rig.new) ≡ front_of (R.world rig.old) }
     ensures untouched { (R.counts rig.new).disk.writes ≡ (R.counts rig.old).disk.writes }
     ensures later { NeverFalls (R.counts rig.old) (R.counts rig.new) }
     ensures halt { IfErr result (λ halt. Halts (S.tells → EndsWithin (fuel reader.old) cache.old.blocks (left reader.old (S.rest source.old)) → ⊥) halt
@@ -123,6 +124,7 @@ fn answer_line<F: Fingerprint, R: Rig>(
     ensures fits { OnOk result (Fits cache.new (R.device_size rig.new)) }
     ensures sizes { OnOk result ((sizes_of cache.new ≡ sizes_of cache.old) × (cache.new.count ≤ cache.old.count + 1)) }
     ensures disk { R.tells → (R.world rig.new).disk ≡ (R.world rig.old).disk }
+    ensures front { R.tells → front_of (R.world rig.new) ≡ front_of (R.world rig.old) }
     ensures asks { Asks 0 1 (R.counts rig.old) (R.counts rig.new) }
     ensures untouched { (R.counts rig.new).disk.writes ≡ (R.counts rig.old).disk.writes }
     ensures later { NeverFalls (R.counts rig.old) (R.counts rig.new) }

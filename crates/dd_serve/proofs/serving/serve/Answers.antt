@@ -119,6 +119,7 @@ lines-preserved g c =
           subst (λ (l : List Command). Going printed sizes start commands (world c.args.rig.now).said (counts c.args.rig.now) faulted (world c.answer_line.new.rig).said (counts c.answer_line.new.rig) after l) (front_other o next other) going;
       sound = λ t. c.in_ok-failed.ensures.sound t;
       disk = λ t. c.answer_line.ensures.disk t ∙ i.disk t;
+      front = λ t. c.answer_line.ensures.front t ∙ i.front t;
       fits = c.in_ok-failed.ensures.fits;
       sizes = c.in_ok-failed.ensures.sizes.0 ∙ i.sizes;
       count = omega (arith, burns, i.count, c.in_ok-failed.ensures.sizes.1);
