@@ -1,5 +1,5 @@
 -- Calls that write within one range of the flash.
-use Rattle.std.proofs.Common.{◌≡◌, inl, inr, ⊎_elim, Bool, true, false, ℕ, ◌+◌, ◌≤◌, List, [], ◌∷◌, length, sym, ◌∙◌, subst, arith}
+use Rattle.std.proofs.Common.{◌≡◌, inl, inr, ⊎_elim, Bool, true, false, ℕ, ◌+◌, ◌≤◌, List, [], ◌∷◌, length, ◌∙◌, arith}
 use Rattle.std.proofs.lemmas.List.{ext_get_or}
 use Rattle.dd_rig.specs.declared.device.Dev.TheVariants.{Flash}
 use Rattle.dd_rig.specs.Device.{Device, IsImage, make_stable}
@@ -65,7 +65,3 @@ module _ (a n : ℕ) (old : World) (shows : IsImage old.flash old.flash.shown) w
       let closed = reaches_closed was_open at low (omega arith) in
       within_piece Flash a n at 1 old (write_stable (at + 1) body (closed_if was_open at old)) o
       (reaches_stable (at + 1) body (closed_if was_open at old) closed (omega arith) high).partly low (omega arith) fits within
-
--- a device that was just synced, as a world is known to be
-pub stable_after : (device : Device) (world : World) → world.flash ≡ make_stable device → IsStable world.flash
-stable_after device world is = subst IsStable (sym is) (synced_is_stable device)

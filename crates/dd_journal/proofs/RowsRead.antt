@@ -44,16 +44,6 @@ module _ {Row : Type 0} (text : Row → List ℕ) (Is : Row → Type 0) (fault :
     pub stand : StandRows text Is width bytes at i rows
     pub behind : first_fault_at fault width bytes at count ≡ first_fault_at fault width bytes (at + width * i) (count - i)
 
-  pub none_yet : (count : ℕ) → ReadSoFar count 0 []
-  none_yet count =
-      let nothing : width * 0 ≡ 0 = omega arith in
-      let here : at + width * 0 ≡ at = omega arith in
-      let all : count - 0 ≡ count = omega arith in
-      record {
-        stand = record { long = refl; keep = tt; spelled = ap (λ (n : ℕ). take n (drop at bytes)) nothing };
-        behind = sym (ap (λ (p : ℕ). first_fault_at fault width bytes p (count - 0)) here ∙ ap (first_fault_at fault width bytes at) all);
-      }
-
   -- what the row in turn says of the first fault
   in_turn : (count i : ℕ) (rows : List Row) → i < count → ReadSoFar count i rows
       → first_fault_at fault width bytes at count ≡ option_or (placed (at + width * i) (fault (part bytes (at + width * i) width))) (first_fault_at fault width bytes (at + width * i + width) (count - (i + 1)))
@@ -85,9 +75,3 @@ module _ {Row : Type 0} (text : Row → List ℕ) (Is : Row → Type 0) (fault :
   first_broken count i rows f e lt so_far broken =
       ap (option_map f) (in_turn count i rows lt so_far)
       ∙ mapped_first f (placed (at + width * i) (fault (part bytes (at + width * i) width))) (first_fault_at fault width bytes (at + width * i + width) (count - (i + 1))) e broken
-
-  -- all rows were read
-  pub all_read : (count : ℕ) (rows : List Row) → ReadSoFar count count rows → first_fault_at fault width bytes at count ≡ None
-  all_read count rows so_far =
-      let none : count - count ≡ 0 = omega arith in
-      so_far.behind ∙ ap (first_fault_at fault width bytes (at + width * count)) none

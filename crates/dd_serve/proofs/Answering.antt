@@ -17,17 +17,14 @@ use Rattle.dd_record.specs.declared.row.BRow.{BRow}
 use Rattle.dd_script.specs.Output.{read_line}
 use Rattle.dd_model.specs.State.{Sizes, State}
 use Rattle.dd_script.specs.Command.{Command}
-use Rattle.dd_script.specs.declared.line.BadKind.{BadKind}
 use Rattle.dd_script.specs.declared.line.BadKind.TheVariants as bad_is
-use Rattle.dd_script.specs.Text.{read_text, bye_text, bad_text}
+use Rattle.dd_script.specs.Text.{read_text}
 use Rattle.dd_serve.specs.declared.cache.Cache.{Cache}
 use Rattle.dd_serve.specs.declared.serving.Answer.{Answer}
 use Rattle.dd_serve.specs.Asks.{Asks, slots_for, blocks_for, hits_in, loads_in}
 use Rattle.dd_serve.specs.Saying.{IsIdle}
 use Rattle.dd_serve.specs.Holds.{IsSound, state_of}
-use Rattle.dd_script.specs.declared.reply.Stop.{Stop}
-use Rattle.dd_serve.specs.declared.halt.Halt.{Halt}
-use Rattle.dd_serve.specs.declared.halt.Halt.TheVariants.{Stopped, Output}
+use Rattle.dd_serve.specs.declared.halt.Halt.TheVariants.{Output}
 use Rattle.dd_serve.specs.Serving.{Replied, WritesAnswer, AnswersLine, CutsLine}
 
 rose_later : (device : Dev) (a b c : Counts) → NeverFalls b c → Rose (calls_of device a).failed_reads (calls_of device b).failed_reads → Rose (calls_of device a).failed_reads (calls_of device c).failed_reads
@@ -52,19 +49,6 @@ asks_read told Join block out drop a b e h = subst (λ (k : Kind). Asks (slots_f
 asks_read told Miss block out drop a b e h = subst (λ (k : Kind). Asks (slots_for k) (blocks_for k) a b) e h
 asks_read told Dup block out drop a b e h = subst (λ (k : Kind). Asks (slots_for k) (blocks_for k) a b) e h
 asks_read told New block out drop a b e h = subst (λ (k : Kind). Asks (slots_for k) (blocks_for k) a b) e h
-
-asks_none : (a : Counts) → Asks 0 0 a a
-asks_none a = (omega arith, omega arith)
-
--- a line that no read answers
-pub asks_bye : (count : ℕ) (a : Counts) → Asks (hits_in (bye_text count ∷ [])) (loads_in (bye_text count ∷ [])) a a
-asks_bye count a = asks_none a
-
-pub asks_bad : (kind : BadKind) (a : Counts) → Asks (hits_in (bad_text kind ∷ [])) (loads_in (bad_text kind ∷ [])) a a
-asks_bad bad_is.Long a = asks_none a
-asks_bad bad_is.Word a = asks_none a
-asks_bad bad_is.Address a = asks_none a
-asks_bad bad_is.Rest a = asks_none a
 
 -- what is said asks no device
 asks_idle : (slots blocks : ℕ) (a b c : Counts) → IsIdle b c → Asks slots blocks a b → Asks slots blocks a c
@@ -97,8 +81,3 @@ module _ (print : List ℕ → Fp) (sizes : Sizes) where
   cuts_written None answer text old new said_before said_after n a b c w said h idle = absurd w
   cuts_written (Some command) answer text old new said_before said_after n a b c w said h idle =
       (w.0, n, w.1, said ∙ ap (λ (l : List ℕ). said_before ++ take n l) w.2, answer.faulted, new, replied_later answer.faulted command w.0 old new a b c h idle w.3)
-
-  -- nothing was
-  pub cuts_nothing : (o : Option Command) (why : Stop) (halt : Halt) (old : State) (said_before said_after : List ℕ) (a b : Counts) → halt ≡ Stopped why → said_after ≡ said_before
-      → CutsLine print sizes halt o old said_before said_after a b
-  cuts_nothing o why halt old said_before said_after a b e said = rw e said

@@ -1,5 +1,5 @@
 -- Words ask for one thing.
-use Rattle.std.specs.Prelude.{Option, MatchOption, option_map, if◌then◌else◌, codes, get_or}
+use Rattle.std.specs.Prelude.{Option, if◌then◌else◌, codes, get_or}
 use Rattle.std.specs.Str.{bytes_eq}
 use Rattle.std.proofs.Common.{◌≡◌, ℕ, List, [], ◌∷◌, length, refl, Some, None, ap, arith}
 use Rattle.dd_block.specs.declared.geometry.Geometry.{Geometry}
@@ -58,9 +58,3 @@ plan_words (a ∷ b ∷ d ∷ f ∷ g ∷ words) e = absurd (omega (arith, e))
 pub asks_nothing : (words : List (List ℕ)) → plan_of words ≡ None → AsksNoFormat words → (asked : Asked) → AsksFor words asked → ⊥
 asks_nothing words none no_format (Replay p) h = absurd (cc)
 asks_nothing words none no_format (Format g) h = no_format g h
-
--- the geometry, where there is one
-pub asks_rest : (words : List (List ℕ)) (o : Option Geometry) → plan_of words ≡ None → MatchOption o (AsksNoFormat words) (λ geo. AsksFormat words geo)
-    → MatchOption (option_map Format o) ((asked : Asked) → AsksFor words asked → ⊥) (λ asked. AsksFor words asked)
-asks_rest words None none h = asks_nothing words none h
-asks_rest words (Some geo) none h = h

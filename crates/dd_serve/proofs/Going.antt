@@ -247,18 +247,6 @@ module _ (print : List ℕ → Fp) (sizes : Sizes) (start : State) (commands : L
   going_line (Some quit) answered faulted said_now said_after old new a b left later one (line, no_end, said, r) g = going_on answered faulted quit line said_now said_after old new a b [] later one no_end said r g
   going_line (Some (bad kind)) answered faulted said_now said_after old new a b left later one (line, no_end, said, r) g = going_on answered faulted (bad kind) line said_now said_after old new a b left later one no_end said r g
 
-  pub going_starts : Going false said_before before start commands
-  going_starts = record {
-    lines = [];
-    answered = (refl, refl);
-    whole = tt;
-    said = sym (append-nil said_before);
-    flash_faults = omega arith;
-    disk_faults = omega arith;
-    fault = (refl, refl);
-    asks = (omega arith, omega arith);
-  }
-
   sofar : (faulted : Bool) (said_after : List ℕ) (end : Counts) (state : State) (left : List Command) → Going faulted said_after end state left → Sofar print sizes start commands said_before said_after before end
   sofar faulted said_after end state left g = record {
     lines = g.lines;

@@ -229,19 +229,6 @@ bounds_step blocks n fuel_before fuel_after buffer before after said h e spends 
     (λ q. subst (λ (rest : List ℕ). (EndsWithin fuel_before blocks before → EndsWithin fuel_after blocks rest) × (EndsWithin fuel_after blocks rest → EndsWithin fuel_before blocks before)) (sym h.2)
     (other_inside_at (has_end before) blocks fuel_before fuel_after before refl spent (ap quits (sym is) ∙ q)))
 
--- at the end of the script stands a quit
-pub end_command : (blocks : ℕ) (before after : List ℕ) → before ≡ [] → commands_of blocks before ≡ fronted (Some quit) (commands_of blocks after)
-end_command blocks before after e = ap (commands_of blocks) e
-
-pub end_inside : (blocks fuel_before fuel_after : ℕ) (before : List ℕ) → before ≡ [] → fuel_after ≤ fuel_before → 0 < fuel_after → EndsWithin fuel_before blocks before
-end_inside blocks fuel_before fuel_after before e le some = let size = ap length e in inl (omega (arith, size, le, some))
-
-pub bounds_quit : (said : Line) (P Q : Type 0) → quits (told said) ≡ true → Bounds said P Q → P
-bounds_quit line_is.Skip P Q e h = absurd (cc)
-bounds_quit (line_is.Read address) P Q e h = absurd (cc)
-bounds_quit line_is.Quit P Q e h = h
-bounds_quit (line_is.Bad kind) P Q e h = absurd (cc)
-
 pub bounds_other : (said : Line) (P Q : Type 0) → quits (told said) ≡ false → Bounds said P Q → (P → Q) × (Q → P)
 bounds_other line_is.Skip P Q e h = h
 bounds_other (line_is.Read address) P Q e h = h

@@ -1,4 +1,4 @@
-use Rattle.std.proofs.Common.{◌≡◌, ◌<◌, ℕ, List, [], length, ap, sym, ◌∙◌, subst, false}
+use Rattle.std.proofs.Common.{◌≡◌, ◌<◌, ℕ, List, length, ap, sym, ◌∙◌, subst}
 use Rattle.std.specs.Prelude.{IfOk, IfErr, OnOk}
 use Rattle.std.proofs.lemmas.Result.{IfErr-weaker}
 use Rattle.dd_rig.specs.declared.device.Dev.TheVariants.{Disk}
@@ -13,9 +13,6 @@ use Rattle.dd_serve.specs.Run.{first_cache, IsBounded}
 use Rattle.dd_serve.specs.Serving.{ServedAll, ServedUpTo}
 use Rattle.dd_serve.proofs.Starts.{first_some, first_fits, first_sound, halts_by}
 use Rattle.dd_serve.proofs.replay.serve_script.Goals as goal
-
-abbrev nothing_held : Held
-nothing_held = record { bytes = []; taken = 0; ended = false }
 
 pub serve-requires-clause-some : goal.serve-requires-clause-some
 serve-requires-clause-some g c = subst (λ (k : Cache). 0 < k.blocks) (sym c.in_ok-cache.ensures) (first_some c.args.plan (g.R.Rig.device_size c.args.rig.now) c.requires.plan c.requires.large)
