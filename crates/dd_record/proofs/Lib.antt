@@ -1,8 +1,10 @@
 mod Checks
 pub mod Lengths
+pub mod Misfits
 pub mod RecordLaws
 pub mod RowLaws
 pub mod Sound
 mod Worked
+mod WorkedLogs
 pub mod Unique
 pub mod Walks
