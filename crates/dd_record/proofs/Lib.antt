@@ -1,5 +1,6 @@
 mod Checks
 pub mod Lengths
+pub mod Linked
 pub mod Misfits
 pub mod RecordLaws
 pub mod RowLaws
