@@ -6,7 +6,7 @@ use Rattle.dd_block.specs.declared.geometry.Geometry.{Geometry}
 use Rattle.dd_layout.specs.Layout.{region_bytes, disk_need}
 use Rattle.dd_record.specs.Spelling.{head_text}
 use Rattle.dd_record.specs.Table.{empty_table}
-use Rattle.dd_model.proofs.Arrays.{array_block, length-array_of}
+use Rattle.dd_model.proofs.Arrays.{array_block, array_blocks, length-array_of}
 use Rattle.dd_journal.specs.Regions.{Reading, Spells, RegionSpells}
 use Rattle.dd_journal.proofs.Standing.{front_stands, stands_byte}
 use Rattle.dd_rig.specs.World.{World}
@@ -15,11 +15,11 @@ use Rattle.dd_store.proofs.Sole.{stands_one}
 use Rattle.dd_recover.specs.Formatting.{IsFormatted, formatted_state, first_head, first_text, IsFresh}
 
 abbrev first_reading : Geometry → Reading
-first_reading geo = record { geo = geo; region = 0; epoch = 1; count = 0; table = empty_table; groups = [] }
+first_reading geo = record { geo = geo; region = 0; version = 2; epoch = 1; count = 0; table = empty_table; groups = [] }
 
 first_counts : (geo : Geometry) (flash : List ℕ) → IsFresh geo flash → RegionSpells (region_bytes geo flash 0) (first_reading geo)
 first_counts geo flash f = record {
-  head = record { epoch = omega arith; count = omega arith; len_a = omega arith; len_b = omega arith };
+  head = record { version = refl; epoch = omega arith; count = omega arith; len_a = omega arith; len_b = omega arith };
   rows = record { b_rows = tt; a_rows = tt; len_b = omega arith; len_a = omega arith };
   groups = tt;
   text = front_stands (region_bytes geo flash 0) 0 (1 ∷ head_text first_head) (0 ∷ []) (omega arith) f.region;
@@ -42,11 +42,12 @@ stands_fresh print geo flash disk f room = (
     geo = geo;
     table = empty_table;
     count = 0;
-    says = record { reading = first_reading geo; spells = spells_first geo flash f; geometry = refl; fit = (refl, refl); replayed = refl; counted = refl };
+    says = record { reading = first_reading geo; spells = spells_first geo flash f; geometry = refl; versioned = refl; fit = record { slots = tt; addresses = tt; links = tt }; replayed = refl; counted = refl };
     disk_size = room;
     means = record {
       array_length = length-array_of geo.block geo.blocks disk;
-      lists = record { blocks = refl; distinct = tt; addresses = refl; counted = refl; linked = tt; b_prints = tt; a_prints = tt };
+      array_blocks = array_blocks geo.block geo.blocks disk room;
+      lists = record { blocks = refl; distinct = tt; nonzero = tt; addresses = refl; counted = refl; b_prints = tt; a_rows = tt };
       clean = λ address below not_dirty. array_block geo.block geo.blocks disk address below;
     };
   },

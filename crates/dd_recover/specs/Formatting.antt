@@ -79,9 +79,9 @@ pub record CallsAtMost (reads writes bytes syncs : ℕ) (before after : Counts) 
 abbrev pub formatted_state : Geometry → List ℕ → State
 formatted_state geo disk = fresh (array_of geo.block geo.blocks disk)
 
--- the header of a snapshot without rows, before the first reference
+-- the header of a snapshot of version 2 without rows, before the first reference
 abbrev pub first_head : Head
-first_head = record { epoch = 1; count = 0; len_a = 0; len_b = 0 }
+first_head = record { version = 2; epoch = 1; count = 0; len_a = 0; len_b = 0 }
 
 -- an open gate, that header, and a closed gate behind it
 abbrev pub first_text : List ℕ

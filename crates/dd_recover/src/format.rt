@@ -21,8 +21,9 @@ use dd_layout::{disk_need, flash_need, region_at, write_super};
 use dd_record::{Head, put_head};
 use dd_rig::{Dev, Failed, Rig};
 
-// The header of a snapshot without rows, before the first reference.
+// The header of a snapshot of version 2 without rows, before the first reference.
 const FIRST: Head = Head {
+    version: 2,
     epoch: 1,
     count: 0,
     len_a: 0,
