@@ -4,3 +4,4 @@ pub mod Geometries
 pub mod Results
 pub mod Texts
 mod Worked
+mod Zeros

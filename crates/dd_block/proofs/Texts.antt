@@ -1,17 +1,15 @@
 -- The text of a block is read back as that block.
-use Rattle.std.proofs.Common.{◌≡◌, ℕ, zero, suc, ◌+◌, ◌-◌, ◌*◌, ◌%◌, ◌<◌, ◌≤◌, ◌==◌, Bool, false, List, [], ◌∷◌, ◌++◌, length, take, drop, replicate, reverse, refl, sym, ap, ◌∙◌, arith, length-take, length-drop}
+use Rattle.std.proofs.Common.{◌≡◌, ℕ, zero, suc, ◌+◌, ◌-◌, ◌*◌, ◌%◌, ◌<◌, ◌≤◌, ◌==◌, false, List, [], ◌∷◌, ◌++◌, length, take, drop, replicate, reverse, refl, sym, ap, ◌∙◌, arith, length-take, length-drop}
 use Rattle.std.specs.Prelude.{Ok, nat_lt}
 use Rattle.std.specs.List.{prefix_len, suffix_len}
 use Rattle.std.proofs.lemmas.Bool.Decides.{nat_tests}
-use Rattle.std.proofs.lemmas.List.{take_at, length-replicate, reverse-append, reverse-reverse, length-reverse, take-append-drop, ext_get_or, get_or-reverse, get_or-replicate}
+use Rattle.std.proofs.lemmas.List.{take_at, reverse-append, reverse-reverse, length-reverse, take-append-drop}
 use Rattle.std.proofs.lemmas.List.Sums.{suffix_len-le-length}
 use Rattle.hex.specs.Hex.{IsBytes, decode_pairs, encode_lower, lower_digits}
 use Rattle.hex.proofs.HexLemmas.{IsDigits-lower_digits, decode_pairs-encode_with, length-encode_with}
 use Rattle.dd_block.proofs.Fields.{front_small}
+use Rattle.dd_block.proofs.Zeros.{is_zero, reverse_zeros}
 use Rattle.dd_block.specs.Text.{block_text, block_of_text, text_or_zero, without_zeros, filled}
-
-abbrev is_zero : ℕ → Bool
-is_zero b = b == 0
 
 -- what a text of right length reads as
 reads : (n : ℕ) (text bytes : List ℕ) → 0 < length text → length text % 2 ≡ 0 → length text ≤ 2 * n → decode_pairs 0 text ≡ Ok bytes
@@ -31,14 +29,6 @@ front_zeros (zero ∷ xs) =
 front_zeros (suc b ∷ xs) =
     let other : is_zero (suc b) ≡ false = grind (arith, nat_tests) in
     rw other refl
-
-reverse_zeros : (n : ℕ) → reverse {A = ℕ} (replicate n 0) ≡ replicate n 0
-reverse_zeros n =
-    let size = length-replicate {A = ℕ} n 0 in
-    ext_get_or 0 (reverse (replicate n 0)) (replicate n 0) (length-reverse (replicate n 0)) (λ i h.
-    let within : i < n = omega (arith, size, length-reverse {A = ℕ} (replicate n 0)) in
-    get_or-reverse (replicate n 0) i 0 (omega (arith, size))
-    ∙ get_or-replicate n (length {A = ℕ} (replicate n 0) - 1 - i) 0 0 (omega (arith, size)) ∙ sym (get_or-replicate n i 0 0 within))
 
 -- a block is its bytes up to the last one that isn't zero, and zeros
 split : (bytes : List ℕ) → bytes ≡ without_zeros bytes ++ replicate (suffix_len is_zero bytes) 0

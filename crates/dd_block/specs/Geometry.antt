@@ -60,6 +60,10 @@ pub record HasNumbers (geo : Geometry) (block blocks acap bcap spare group log :
   pub group_size : geo.group ≡ group
   pub log_size : geo.log ≡ log
 
+-- how many slots a flash has: one for each block that may be listed, and the spare ones
+abbrev pub slot_count : Geometry → ℕ
+slot_count geo = geo.bcap + geo.spare
+
 -- an Err is this fault, and an Ok comes where there is none
 abbrev pub GivesFault : {T F : Type 0} → Result T F → Option F → Type 0
 GivesFault (Ok value) fault = fault ≡ None

@@ -56,7 +56,7 @@ pub enum GeometryFault {
 
 impl Geometry {
     ghost use Rattle.std.specs.Prelude.{IfOk};
-    ghost use Rattle.dd_block.specs.Geometry.{geometry_fault, GivesFault, HasNumbers};
+    ghost use Rattle.dd_block.specs.Geometry.{geometry_fault, slot_count, GivesFault, HasNumbers};
 
     /// The geometry of these numbers. Where some are out of their ranges, the first in the order
     /// of the fields is the fault. What a log may have at least depends on `group`.
@@ -103,6 +103,13 @@ impl Geometry {
             log,
         })
     }
+
+    /// How many slots the flash has: one for each block that may be listed, and the spare ones.
+    pub fn slots(self) -> u32
+        ensures { result ≡ slot_count self }
+    {
+        self.bcap + self.spare
+    }
 }
 
 #[cfg(test)]
@@ -111,7 +118,8 @@ mod tests {
 
     #[test]
     fn a_small_cache(rt: HostRuntime) {
-        assert!(rt; Geometry::new(16, 8, 3, 2, 1, 8, 392).is_ok());
+        let geo = Geometry::new(16, 8, 3, 2, 1, 8, 392).expect(&rt, "it keeps the ranges");
+        assert_eq!(rt; geo.slots(), 3);
         let fault = Geometry::new(16, 8, 3, 2, 1, 8, 391);
         assert_eq!(rt; fault, Err(GeometryFault::Log(391)));
     }

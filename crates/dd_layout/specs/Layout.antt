@@ -2,6 +2,7 @@
 use Rattle.std.specs.Prelude.{ℕ, ◌+◌, ◌*◌, List}
 use Rattle.dd_block.specs.declared.geometry.Geometry.{Geometry}
 use Rattle.dd_block.specs.Bytes.{part}
+use Rattle.dd_block.specs.Geometry.{slot_count}
 
 -- a gate, a snapshot with as many rows as there may be, and a log
 abbrev pub region_size : Geometry → ℕ
@@ -14,10 +15,6 @@ region_at geo region = 64 + region * region_size geo
 -- the bytes of a region
 abbrev pub region_bytes : Geometry → List ℕ → ℕ → List ℕ
 region_bytes geo flash region = part flash (region_at geo region) (region_size geo)
-
--- a slot for each block that may be listed, and the spare ones
-abbrev pub slot_count : Geometry → ℕ
-slot_count geo = geo.bcap + geo.spare
 
 -- where a slot begins, behind both regions
 abbrev pub slot_at : Geometry → ℕ → ℕ

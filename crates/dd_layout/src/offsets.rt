@@ -1,5 +1,6 @@
 // Where the parts of a flash stand. All places and sizes are bytes.
 ghost use Rattle.std.specs.Prelude.{◌≡◌, ◌+◌, ◌<◌};
+ghost use Rattle.dd_block.specs.Geometry.{slot_count};
 ghost use Rattle.dd_layout.specs.Layout as layout;
 
 use dd_block::Geometry;
@@ -19,9 +20,9 @@ pub fn region_at(geo: Geometry, region: u32) -> u64
     64 + u64::from(region) * region_size(geo)
 }
 
-/// Where a slot begins. There are `bcap + spare` slots, counted from 0, behind both regions.
+/// Where a slot begins. The slots are counted from 0 and lie behind both regions.
 pub fn slot_at(geo: Geometry, slot: u32) -> u64
-    requires { slot < geo.bcap + geo.spare }
+    requires { slot < slot_count geo }
     ensures { result ≡ layout.slot_at geo slot }
 {
     64 + 2 * region_size(geo) + u64::from(slot) * u64::from(geo.block)
@@ -31,7 +32,7 @@ pub fn slot_at(geo: Geometry, slot: u32) -> u64
 pub fn flash_need(geo: Geometry) -> u64
     ensures { result ≡ layout.flash_need geo }
 {
-    64 + 2 * region_size(geo) + u64::from(geo.bcap + geo.spare) * u64::from(geo.block)
+    64 + 2 * region_size(geo) + u64::from(geo.slots()) * u64::from(geo.block)
 }
 
 /// How many bytes of a disk are used: its blocks stand one behind the other from 0 on.

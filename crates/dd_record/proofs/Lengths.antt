@@ -6,7 +6,7 @@ use Rattle.dd_record.specs.declared.head.Head.{Head}
 use Rattle.dd_record.specs.declared.row.ARow.{ARow}
 use Rattle.dd_record.specs.declared.row.BRow.{BRow}
 use Rattle.dd_record.specs.declared.rec.Rec.{Rec}
-use Rattle.dd_record.specs.declared.rec.Rec.TheVariants.{Hit, Link, Store, Clean}
+use Rattle.dd_record.specs.declared.rec.Rec.TheVariants.{Hit, Link, Store, Zero, Clean}
 use Rattle.dd_record.specs.Spelling.{head_text, a_text, b_text, rec_text, IsFp, IsRec}
 
 pub length-head_text : (head : Head) → length (head_text head) ≡ 32
@@ -18,11 +18,12 @@ length-b_text row whole = omega (arith, whole)
 pub length-a_text : (row : ARow) → IsFp row.fp → length (a_text row) ≡ 44
 length-a_text row whole = omega (arith, whole)
 
-pub length-rec_text : (geo : Geometry) (rec : Rec) → IsRec geo rec → length (rec_text rec) ≡ 48
-length-rec_text geo (Hit address) is = refl
-length-rec_text geo (Link address slot dirty) is = refl
-length-rec_text geo (Store address slot fp dirty) is = omega (arith, is.2)
-length-rec_text geo (Clean address) is = refl
+pub length-rec_text : (geo : Geometry) (version : ℕ) (rec : Rec) → IsRec geo version rec → length (rec_text rec) ≡ 48
+length-rec_text geo version (Hit address) is = refl
+length-rec_text geo version (Link address slot dirty) is = refl
+length-rec_text geo version (Store address slot fp dirty) is = omega (arith, is.2)
+length-rec_text geo version (Zero address dirty) is = refl
+length-rec_text geo version (Clean address) is = refl
 
 -- texts of one length, one behind the other
 pub length-flat_map : {X : Type 0} (text : X → List ℕ) (n : ℕ) (xs : List X) → AllByRecursion (λ x. length (text x) ≡ n) xs

@@ -1,14 +1,15 @@
--- The spellings of worked values, and replay of small logs.
-use Rattle.std.proofs.Common.{◌≡◌, true, false, [], ◌∷◌, ◌++◌, replicate, refl, Some, None, arith}
+-- The spellings of worked values, and their faults.
+use Rattle.std.proofs.Common.{◌≡◌, ℕ, List, true, [], ◌∷◌, ◌++◌, replicate, refl, Some, None, arith}
 use Rattle.dd_block.specs.declared.geometry.Geometry.{Geometry}
 use Rattle.dd_block.specs.Print.{first_byte}
 use Rattle.dd_record.specs.declared.rec.Rec.{Rec}
-use Rattle.dd_record.specs.declared.rec.Rec.TheVariants.{Hit, Link, Store, Clean}
+use Rattle.dd_record.specs.declared.rec.Rec.TheVariants.{Hit, Store, Zero, Clean}
+use Rattle.dd_record.specs.declared.head.Head.{Head}
+use Rattle.dd_record.specs.declared.row.Link.TheVariants as links
 use Rattle.dd_record.specs.declared.fault.What.TheVariants as what
-use Rattle.dd_record.specs.Spelling.{head_text, group_text, rec_text}
-use Rattle.dd_record.specs.Faults.{head_fault, rec_fault}
-use Rattle.dd_record.specs.Table.{empty_table}
-use Rattle.dd_record.specs.Replay.{replay, count_after}
+use Rattle.dd_record.specs.Spelling.{head_text, a_text, group_text, rec_text, fields_text, zero_fp}
+use Rattle.dd_record.specs.Faults.{head_fault, a_fault, rec_fault}
+use Rattle.dd_record.specs.Replay.{count_after}
 
 abbrev worked : Geometry
 worked = record {
@@ -37,12 +38,42 @@ worked = record {
 }
 
 -- the header of a flash that was just formatted
-formatted_head : head_text (record { epoch = 1; count = 0; len_a = 0; len_b = 0 })
-    ≡ 0x44 ∷ 0x4c ∷ 0x52 ∷ 0x31 ∷ 1 ∷ 0 ∷ 0 ∷ 0 ∷ 1 ∷ 0 ∷ 0 ∷ 0 ∷ 0 ∷ 0 ∷ 0 ∷ 0 ∷ replicate 16 0
+abbrev formatted : Head
+formatted = record { version = 2; epoch = 1; count = 0; len_a = 0; len_b = 0 }
+
+formatted_head : head_text formatted
+    ≡ 0x44 ∷ 0x4c ∷ 0x52 ∷ 0x31 ∷ 2 ∷ 0 ∷ 0 ∷ 0 ∷ 1 ∷ replicate 23 0
 formatted_head = refl
 
-formatted_head_read : head_fault worked (head_text (record { epoch = 1; count = 0; len_a = 0; len_b = 0 })) ≡ None
+formatted_head_read : head_fault worked (head_text formatted) ≡ None
 formatted_head_read = refl
+
+-- the header that was written before there was a version 2
+older_head_read : head_fault worked (head_text (record formatted { version = 1 })) ≡ None
+older_head_read = refl
+
+newer_head : head_fault worked (head_text (record formatted { version = 3 })) ≡ Some (record { at = 4; what = what.Version })
+newer_head = refl
+
+-- address 5, zero and dirty
+abbrev zero_row : List ℕ
+zero_row = 5 ∷ 0 ∷ 0 ∷ 0 ∷ 6 ∷ 0 ∷ 0 ∷ 0 ∷ 0xff ∷ 0xff ∷ 0xff ∷ 0xff ∷ replicate 32 0
+
+zero_row_text : a_text (record { address = 5; link = links.Zero; dirty = true; fp = zero_fp }) ≡ zero_row
+zero_row_text = refl
+
+zero_row_read : a_fault worked 2 zero_row ≡ None
+zero_row_read = refl
+
+zero_row_in_version_1 : a_fault worked 1 zero_row ≡ Some (record { at = 4; what = what.Flags })
+zero_row_in_version_1 = refl
+
+zero_row_with_slot : a_fault worked 2 (5 ∷ 0 ∷ 0 ∷ 0 ∷ 4 ∷ replicate 39 0) ≡ Some (record { at = 8; what = what.Slot })
+zero_row_with_slot = refl
+
+zero_row_with_print : a_fault worked 2 (5 ∷ 0 ∷ 0 ∷ 0 ∷ 4 ∷ 0 ∷ 0 ∷ 0 ∷ 0xff ∷ 0xff ∷ 0xff ∷ 0xff ∷ 1 ∷ replicate 31 0)
+    ≡ Some (record { at = 12; what = what.Unused })
+zero_row_with_print = refl
 
 -- the group of the command w 5 ab, stored in slot 0
 abbrev store_ab : Rec
@@ -51,34 +82,27 @@ store_ab = Store 5 0 (first_byte (0xab ∷ [])) true
 group_ab : group_text (store_ab ∷ []) ≡ 1 ∷ 1 ∷ 0 ∷ 0 ∷ 0 ∷ 3 ∷ 0 ∷ 0 ∷ 0 ∷ 1 ∷ 0 ∷ 0 ∷ 0 ∷ 5 ∷ 0 ∷ 0 ∷ 0 ∷ 0 ∷ 0 ∷ 0 ∷ 0 ∷ 0xab ∷ replicate 31 0
 group_ab = refl
 
-record_read : rec_fault worked (rec_text store_ab) ≡ None
+record_read : rec_fault worked 1 (rec_text store_ab) ≡ None
 record_read = refl
 
-wrong_kind : rec_fault worked (9 ∷ replicate 47 0) ≡ Some (record { at = 0; what = what.Kind })
+-- the record of the command d 5
+zero_text : rec_text (Zero 5 true) ≡ 5 ∷ 0 ∷ 0 ∷ 0 ∷ 1 ∷ 0 ∷ 0 ∷ 0 ∷ 5 ∷ replicate 39 0
+zero_text = refl
+
+zero_read : rec_fault worked 2 (rec_text (Zero 5 true)) ≡ None
+zero_read = refl
+
+zero_in_version_1 : rec_fault worked 1 (rec_text (Zero 5 true)) ≡ Some (record { at = 0; what = what.Kind })
+zero_in_version_1 = refl
+
+zero_with_slot : rec_fault worked 2 (fields_text 5 1 5 1 (replicate 32 0)) ≡ Some (record { at = 12; what = what.Unused })
+zero_with_slot = refl
+
+wrong_kind : rec_fault worked 2 (9 ∷ replicate 47 0) ≡ Some (record { at = 0; what = what.Kind })
 wrong_kind = refl
 
-used_in_hit : rec_fault worked (1 ∷ replicate 11 0 ++ 1 ∷ replicate 35 0) ≡ Some (record { at = 12; what = what.Unused })
+used_in_hit : rec_fault worked 2 (1 ∷ replicate 11 0 ++ 1 ∷ replicate 35 0) ≡ Some (record { at = 12; what = what.Unused })
 used_in_hit = refl
 
--- slots and links after the worked script w 4 aa, w 5 aa, w 6 bb, clean 4 and 5, w 6 cc
-after_cut : replay 3 2 (Store 4 0 (first_byte (0xaa ∷ [])) true ∷ Link 5 0 true ∷ Store 6 1 (first_byte (0xbb ∷ [])) true
-    ∷ Clean 4 ∷ Clean 5 ∷ Store 6 2 (first_byte (0xcc ∷ [])) true ∷ []) empty_table
-    ≡ Some (record {
-      b = record { slot = 2; fp = first_byte (0xcc ∷ []) } ∷ record { slot = 1; fp = first_byte (0xbb ∷ []) } ∷ [];
-      a = record { address = 6; link = Some 2; dirty = true; fp = first_byte (0xcc ∷ []) }
-          ∷ record { address = 5; link = None; dirty = false; fp = first_byte (0xaa ∷ []) }
-          ∷ record { address = 4; link = None; dirty = false; fp = first_byte (0xaa ∷ []) } ∷ [];
-    })
-after_cut = refl
-
--- with 4 and 5 still dirty the last record doesn't fit
-dirty_cut : replay 3 2 (Store 4 0 (first_byte (0xaa ∷ [])) true ∷ Link 5 0 true ∷ Store 6 1 (first_byte (0xbb ∷ [])) true
-    ∷ Store 6 2 (first_byte (0xcc ∷ [])) true ∷ []) empty_table ≡ None
-dirty_cut = refl
-
--- a link of an address that isn't in B doesn't fit
-no_block : replay 3 2 (Link 0 0 false ∷ []) empty_table ≡ None
-no_block = refl
-
-counted : count_after 4 (Hit 1 ∷ Clean 1 ∷ Hit 1 ∷ []) ≡ 6
+counted : count_after 4 (Hit 1 ∷ Clean 1 ∷ Zero 1 true ∷ []) ≡ 6
 counted = refl

@@ -19,7 +19,7 @@ pub struct RowFault {
 pub enum What {
     #[error("another magic than DLR1")]
     Magic,
-    #[error("a version other than 1")]
+    #[error("a version other than 1 and 2")]
     Version,
     #[error("more addresses than the list may have")]
     LenA,
@@ -29,9 +29,9 @@ pub enum What {
     Slot,
     #[error("no address of the disk")]
     Address,
-    #[error("flags other than 0, 1 and 3")]
+    #[error("flags that the version doesn't have")]
     Flags,
-    #[error("a kind of record other than 1 to 4")]
+    #[error("a kind of record that the version doesn't have")]
     Kind,
     #[error("dirty other than 0 and 1")]
     Dirty,

@@ -5,7 +5,7 @@ ghost use Rattle.dd_block.specs.Bytes.{part, u32_at};
 ghost use Rattle.dd_block.specs.Geometry.{GivesFault};
 ghost use Rattle.dd_record.specs.declared.rec.Rec.{Rec};
 ghost use Rattle.dd_record.specs.Spelling.{bit_of, fields_text, rec_of_fields, rec_text};
-ghost use Rattle.dd_record.specs.Spelling.{IsRec, IsRightCount};
+ghost use Rattle.dd_record.specs.Spelling.{IsRec, IsRightCount, IsVersion};
 ghost use Rattle.dd_record.specs.Faults.{fields_fault, rec_fault, count_fault};
 
 use crate::fault::{RowFault, What, check, check_used};
@@ -31,6 +31,8 @@ const STORE: u32 = 3;
 
 const CLEAN: u32 = 4;
 
+const ZERO: u32 = 5;
+
 // The fingerprint field of a record that has none.
 const NO_FP: Fp = Fp([0; 32]);
 
@@ -52,20 +54,22 @@ pub fn put_rec(rec: Rec, into: &mut [u8; 48])
             dirty,
         } => put_fields(STORE, dirty, address, slot, fp, into),
         Rec::Clean { address } => put_fields(CLEAN, false, address, 0, NO_FP, into),
+        Rec::Zero { address, dirty } => put_fields(ZERO, dirty, address, 0, NO_FP, into),
     }
 }
 
-/// Reads a record. Its rules: a kind 1 to 4 (`Kind` at 0); dirty 0 or 1 (`Dirty` at 4); an address
-/// below `blocks` (`Address` at 8); a slot below `bcap + spare` (`Slot` at 12); and zero for dirty
-/// and slot where the kind is neither Link nor Store, and for the fingerprint where it isn't Store
-/// (`Unused` at 4, 12 or 16).
-pub fn get_rec(from: &[u8; 48], geo: Geometry) -> Result<Rec, RowFault>
-    ensures ok { IfOk result (λ rec. (from.now ≡ rec_text rec) × IsRec geo rec) }
-    ensures back { (rec : Rec) → IsRec geo rec → from.now ≡ rec_text rec → result ≡ Ok rec }
-    ensures fault { GivesFault result (rec_fault geo from.now) }
+/// Reads a record, in version 1 or 2. Its rules: a kind 1 to 4, and in version 2 also 5 (`Kind` at
+/// 0); dirty 0 or 1 (`Dirty` at 4); an address below `blocks` (`Address` at 8); a slot of the flash
+/// (`Slot` at 12). What a kind doesn't use is zero (`Unused` at 4, 12 or 16): dirty is used by
+/// Link, Store and Zero, the slot by Link and Store, the fingerprint by Store.
+pub fn get_rec(from: &[u8; 48], geo: Geometry, version: u32) -> Result<Rec, RowFault>
+    requires version { IsVersion version }
+    ensures ok { IfOk result (λ rec. (from.now ≡ rec_text rec) × IsRec geo version rec) }
+    ensures back { (rec : Rec) → IsRec geo version rec → from.now ≡ rec_text rec → result ≡ Ok rec }
+    ensures fault { GivesFault result (rec_fault geo version from.now) }
 {
     let fields = read_fields(from);
-    check_fields(fields, geo)?;
+    check_fields(fields, geo, version)?;
     Ok(rec_of(fields))
 }
 
@@ -104,16 +108,18 @@ fn read_fields(from: &[u8; 48]) -> Fields
 }
 
 // Tests the rules of the five fields.
-fn check_fields(fields: Fields, geo: Geometry) -> Result<(), RowFault>
-    ensures { GivesFault result (fields_fault geo fields.kind fields.dirty fields.address
+fn check_fields(fields: Fields, geo: Geometry, version: u32) -> Result<(), RowFault>
+    ensures { GivesFault result (fields_fault geo version fields.kind fields.dirty fields.address
         fields.slot fields.fp.0) }
 {
     let kind = fields.kind;
+    let is_kind = HIT <= kind && (kind <= CLEAN || kind == ZERO && version == 2);
     let uses_slot = kind == LINK || kind == STORE;
-    let has_slot = fields.slot < geo.bcap + geo.spare;
+    let uses_dirty = kind == LINK || kind == STORE || kind == ZERO;
+    let has_slot = fields.slot < geo.slots();
     let no_print = first_nonzero(&fields.fp.0).is_none();
-    check(0, What::Kind, HIT <= kind && kind <= CLEAN)?;
-    check_used(uses_slot, 4, What::Dirty, fields.dirty <= 1, fields.dirty)?;
+    check(0, What::Kind, is_kind)?;
+    check_used(uses_dirty, 4, What::Dirty, fields.dirty <= 1, fields.dirty)?;
     check(8, What::Address, fields.address < geo.blocks)?;
     check_used(uses_slot, 12, What::Slot, has_slot, fields.slot)?;
     check(16, What::Unused, kind == STORE || no_print)
@@ -144,7 +150,8 @@ fn rec_of(fields: Fields) -> Rec
             fp,
             dirty,
         },
-        _ => Rec::Clean { address },
+        CLEAN => Rec::Clean { address },
+        _ => Rec::Zero { address, dirty },
     }
 }
 
@@ -183,7 +190,7 @@ mod tests {
         let mut text = [0; 48];
         put_rec(rec, &mut text);
         assert!(rt; text.as_slice() == STORE_AB.as_slice());
-        assert_eq!(rt; get_rec(STORE_AB, geo), Ok(rec));
+        assert_eq!(rt; get_rec(STORE_AB, geo, 1), Ok(rec));
     }
 
     #[test]
@@ -197,7 +204,25 @@ mod tests {
             at: 4,
             what: What::Unused,
         };
-        assert_eq!(rt; get_rec(&text, geo), Err(fault));
+        assert_eq!(rt; get_rec(&text, geo, 2), Err(fault));
+    }
+
+    #[test]
+    fn a_zero_record_in_version_2_alone(rt: HostRuntime) {
+        let geo = Geometry::new(16, 8, 3, 2, 1, 8, 392).expect(&rt, "it keeps the ranges");
+        let zero = Rec::Zero {
+            address: 5,
+            dirty: true,
+        };
+        let mut text = [1; 48];
+        put_rec(zero, &mut text);
+        assert!(rt; &text[..13] == b"\x05\0\0\0\x01\0\0\0\x05\0\0\0\0".as_slice());
+        assert_eq!(rt; get_rec(&text, geo, 2), Ok(zero));
+        let fault = RowFault {
+            at: 0,
+            what: What::Kind,
+        };
+        assert_eq!(rt; get_rec(&text, geo, 1), Err(fault));
     }
 
     #[test]

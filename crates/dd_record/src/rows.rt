@@ -41,6 +41,7 @@ pub trait Rows {
 #[cfg(test)]
 mod tests {
     use super::*;
+    use crate::row::Link;
     use dd_block::Fp;
 
     // Two addresses and a block.
@@ -96,7 +97,7 @@ mod tests {
         let fp = Fp([0; 32]);
         let first = ARow {
             address: 4,
-            link: None,
+            link: Link::Lost,
             dirty: false,
             fp,
         };

@@ -7,7 +7,7 @@ use Rattle.dd_layout.specs.Layout.{region_bytes, disk_need}
 use Rattle.dd_record.specs.Spelling.{head_text}
 use Rattle.dd_record.specs.Table.{empty_table}
 use Rattle.dd_model.proofs.Arrays.{array_block, length-array_of}
-use Rattle.dd_journal.specs.Regions.{Reading, Spells, Counts}
+use Rattle.dd_journal.specs.Regions.{Reading, Spells, RegionSpells}
 use Rattle.dd_journal.proofs.Standing.{front_stands, stands_byte}
 use Rattle.dd_rig.specs.World.{World}
 use Rattle.dd_store.specs.Meaning.{Stands}
@@ -17,7 +17,7 @@ use Rattle.dd_recover.specs.Formatting.{IsFormatted, formatted_state, first_head
 abbrev first_reading : Geometry → Reading
 first_reading geo = record { geo = geo; region = 0; epoch = 1; count = 0; table = empty_table; groups = [] }
 
-first_counts : (geo : Geometry) (flash : List ℕ) → IsFresh geo flash → Counts (region_bytes geo flash 0) (first_reading geo)
+first_counts : (geo : Geometry) (flash : List ℕ) → IsFresh geo flash → RegionSpells (region_bytes geo flash 0) (first_reading geo)
 first_counts geo flash f = record {
   head = record { epoch = omega arith; count = omega arith; len_a = omega arith; len_b = omega arith };
   rows = record { b_rows = tt; a_rows = tt; len_b = omega arith; len_a = omega arith };

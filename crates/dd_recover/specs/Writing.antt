@@ -1,4 +1,5 @@
--- What a format writes, and what a crash within it leaves of the flash.
+-- What a format writes, and what a crash within it leaves of the flash. These are contracts of private functions: what is
+-- to be believed of a format stands in Formatting.
 use Rattle.std.specs.Prelude.{◌⊎◌, ℕ, List, [], ◌∷◌, drop}
 use Rattle.dd_block.specs.declared.geometry.Geometry.{Geometry}
 use Rattle.dd_rig.specs.declared.device.Dev.TheVariants.{Flash, Disk}

@@ -12,7 +12,7 @@ returns-clause-ok c =
     let from = c.args.from.now in (
       sym (take_all 36 from (omega (arith, c.told-from))) ∙ take-add 4 32 from ∙ rw (c.u32_at-slot.ensures.spelled, c.fp_at.ensures.bytes) refl,
       record {
-        slot = ltb-true _ _ (kept_of 0 Slot _ c.check.result c.in_ok-check.was c.check.ensures);
+        slot = omega (arith, c.slots.ensures, ltb-true _ _ (kept_of 0 Slot _ c.check.result c.in_ok-check.was c.check.ensures));
         fp = c.fp_at.ensures.whole;
       },
     )
