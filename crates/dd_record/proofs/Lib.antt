@@ -1,8 +1,11 @@
 mod Checks
+pub mod Fitting
 pub mod Lengths
 pub mod Linked
+mod Lists
 pub mod Misfits
 pub mod RecordLaws
+pub mod Replayed
 pub mod RowLaws
 pub mod Sound
 mod Worked

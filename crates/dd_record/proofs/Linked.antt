@@ -1,5 +1,5 @@
 -- Replay keeps dirty addresses linked.
-use Rattle.std.proofs.Common.{◌≡◌, ℕ, zero, suc, ◌≤◌, ◌==◌, Bool, true, false, List, [], ◌∷◌, map, take, refl, sym, subst, arith, Some, None, if◌then◌else◌}
+use Rattle.std.proofs.Common.{◌≡◌, ℕ, zero, suc, ◌≤◌, ◌==◌, Bool, true, false, List, [], ◌∷◌, take, refl, sym, subst, arith, Some, None, if◌then◌else◌}
 use Rattle.std.specs.Prelude.{Option, filter, not, ◌&&◌, ◌||◌, slice_get, option_and_then}
 use Rattle.std.specs.List.{AllByRecursion, list_any}
 use Rattle.std.proofs.lemmas.Bool.{eq-eqb, eqb-true}
@@ -10,30 +10,7 @@ use Rattle.dd_record.specs.declared.rec.Rec.{Rec}
 use Rattle.dd_record.specs.declared.rec.Rec.TheVariants.{Hit, Link, Store, Zero, Clean}
 use Rattle.dd_record.specs.Table.{Table, is_link, is_slot, is_dirty_at, IsDirtyLinked}
 use Rattle.dd_record.specs.Replay.{Touch, a_moved, b_moved, cut_block, cut_address, link_to, linked_row, unlinked_from, touched, is_clean_cut, is_free_cut, may_touch, touch_of, cleaned_row, cleaned, after_touch, after_rec, replay}
-
--- what holds of each row holds of the first ones, and of those that pass a test
-all_take : {X : Type 0} (P : X → Type 0) (n : ℕ) (xs : List X) → AllByRecursion P xs → AllByRecursion P (take n xs)
-all_take P zero [] h = tt
-all_take P (suc n) [] h = tt
-all_take P zero (x ∷ xs) h = tt
-all_take P (suc n) (x ∷ xs) h = (h.0, all_take P n xs h.1)
-
-kept_if : {X : Type 0} (P : X → Type 0) (b : Bool) (x : X) (xs : List X) → (b ≡ true → P x) → AllByRecursion P xs → AllByRecursion P (if b then x ∷ xs else xs)
-kept_if P true x xs here rest = (here refl, rest)
-kept_if P false x xs here rest = rest
-
-all_filter : {X : Type 0} (P : X → Type 0) (p : X → Bool) (xs : List X) → AllByRecursion (λ x. p x ≡ true → P x) xs → AllByRecursion P (filter p xs)
-all_filter P p [] h = tt
-all_filter P p (x ∷ xs) h = kept_if P (p x) x (filter p xs) h.0 (all_filter P p xs h.1)
-
-all_map : {X : Type 0} (P Q : X → Type 0) (f : X → X) (xs : List X) → ((x : X) → P x → Q (f x)) → AllByRecursion P xs → AllByRecursion Q (map f xs)
-all_map P Q f [] step h = tt
-all_map P Q f (x ∷ xs) step h = (step x h.0, all_map P Q f xs step h.1)
-
-got : {X : Type 0} (P : X → Type 0) (xs : List X) (i : ℕ) (x : X) → slice_get xs i ≡ Some x → AllByRecursion P xs → P x
-got P [] i x is h = absurd (cc is)
-got P (y ∷ xs) zero x is h = subst P (cc is) h.0
-got P (y ∷ xs) (suc i) x is h = got P xs i x is h.1
+use Rattle.dd_record.proofs.Lists.{all_take, all_filter, all_map, all_both, got}
 
 -- a block that is cut isn't the one that was referenced
 abbrev other_slot : ℕ → BRow → Type 0
@@ -105,19 +82,15 @@ loses_link : (cut : Option BRow) (row : ARow) → Loses cut row → IsDirtyLinke
 loses_link None row h = h
 loses_link (Some cut) row h = unlinks (is_slot cut.slot row.link) row h.1 h.0
 
-both_of : (P Q R : ARow → Type 0) (rows : List ARow) → ((row : ARow) → P row → Q row → R row) → AllByRecursion P rows → AllByRecursion Q rows → AllByRecursion R rows
-both_of P Q R [] step p q = tt
-both_of P Q R (row ∷ rows) step p q = (step row p.0 q.0, both_of P Q R rows step p.1 q.1)
-
 module _ (acap bcap : ℕ) (some : 1 ≤ bcap) (touch : Touch) (table : Table) where
   front_loses : (cut : Option BRow) → cut_block bcap touch.block table.b ≡ cut → Loses cut (linked_row touch table.a)
   front_loses None is = λ dirty. to_link touch.block
   front_loses (Some cut) is = (λ dirty. to_link touch.block, λ here. absurd (not_to_cut bcap touch.block table.b cut some is here))
 
   rest_loses : (cut : Option BRow) → is_free_cut touch.address table.a cut ≡ true → AllByRecursion IsDirtyLinked table.a → AllByRecursion (λ row. not (row.address == touch.address) ≡ true → Loses cut row) table.a
-  rest_loses None free linked = both_of IsDirtyLinked IsDirtyLinked (λ row. not (row.address == touch.address) ≡ true → Loses None row) table.a (λ row here also other. here) linked linked
+  rest_loses None free linked = all_both IsDirtyLinked IsDirtyLinked (λ row. not (row.address == touch.address) ≡ true → Loses None row) table.a (λ row here also other. here) linked linked
   rest_loses (Some cut) free linked =
-      both_of IsDirtyLinked (λ row. not (row.address == touch.address) ≡ true → is_slot cut.slot row.link ≡ true → row.dirty ≡ false) (λ row. not (row.address == touch.address) ≡ true → Loses (Some cut) row) table.a
+      all_both IsDirtyLinked (λ row. not (row.address == touch.address) ≡ true → is_slot cut.slot row.link ≡ true → row.dirty ≡ false) (λ row. not (row.address == touch.address) ≡ true → Loses (Some cut) row) table.a
       (λ row here clean other. (here, clean other)) linked
       (no_other_dirty touch.address cut.slot table.a (not_true (list_any (λ row. is_slot cut.slot row.link && row.dirty && not (row.address == touch.address)) table.a) free))
 
