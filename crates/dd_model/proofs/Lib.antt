@@ -1,2 +1,3 @@
 pub mod Arrays
+mod WorkedRows
 pub mod Zeros
