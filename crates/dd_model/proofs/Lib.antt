@@ -1,1 +1,19 @@
+pub mod Allowed
+pub mod Answering
+pub mod Applied
 pub mod Arrays
+pub mod Cleaned
+pub mod Dirty
+pub mod DirtyLinks
+pub mod Falling
+mod Filters
+pub mod Kept
+pub mod Mapped
+pub mod Oldest
+pub mod Records
+pub mod Referring
+pub mod Restored
+pub mod Searching
+pub mod Stepping
+pub mod TouchKept
+pub mod Walking
