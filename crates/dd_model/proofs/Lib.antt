@@ -6,6 +6,7 @@ pub mod Arrays
 mod Behind
 pub mod Carried
 pub mod Cleaned
+pub mod Confirmed
 pub mod CutLinks
 pub mod Dirty
 pub mod DirtyLinks
