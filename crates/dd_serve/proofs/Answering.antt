@@ -17,7 +17,6 @@ use Rattle.dd_record.specs.declared.row.BRow.{BRow}
 use Rattle.dd_script.specs.Output.{read_line}
 use Rattle.dd_model.specs.State.{Sizes, State}
 use Rattle.dd_script.specs.Command.{Command}
-use Rattle.dd_script.specs.declared.line.BadKind.TheVariants as bad_is
 use Rattle.dd_script.specs.Text.{read_text}
 use Rattle.dd_serve.specs.declared.cache.Cache.{Cache}
 use Rattle.dd_serve.specs.declared.serving.Answer.{Answer}

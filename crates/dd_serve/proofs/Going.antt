@@ -27,7 +27,7 @@ use Rattle.dd_script.specs.declared.reply.Stop.{Stop}
 use Rattle.dd_serve.specs.Asks.{Asks, is_hit, is_load, hits_in, loads_in}
 use Rattle.dd_serve.specs.declared.halt.Halt.{Halt}
 use Rattle.dd_serve.specs.declared.halt.Halt.TheVariants.{Stopped, Output}
-use Rattle.dd_serve.specs.Reading.{fronted, quits}
+use Rattle.dd_script.specs.Reading.{fronted, quits}
 use Rattle.dd_serve.specs.Serving.{Replied, AnswersLine, CutsLine, Sofar, HasFault, ServedAll, ServedUpTo, HaltsAt}
 
 -- a reply says of no device that its read failed

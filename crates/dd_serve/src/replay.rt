@@ -16,12 +16,11 @@ ghost use Rattle.dd_serve.specs.Run.{Serves, status_of, IsBounded, first_cache, 
 use crate::cache::Cache;
 use crate::halt::Halt;
 use crate::last_line::end;
-use crate::reader::{LINE_ROOM, Reader};
 use crate::serving::serve;
 use crate::words::Plan;
 use dd_block::Fingerprint;
 use dd_rig::{Dev, Failed, Rig, Source};
-use dd_script::{REPLY_ROOM, Refusal, Reply, Stop};
+use dd_script::{REPLY_ROOM, Reader, Refusal, Reply, Stop};
 use std::alloc::{AllocError, Global};
 
 /// The greatest number of blocks.
@@ -160,7 +159,6 @@ fn serve_script<F: Fingerprint, R: Rig, S: Source>(
     let size = plan.block as usize;
     let mut cache = start(alloc, plan, rig)?;
     let mut reader = Reader::new(alloc)?;
-    let mut line = vec![in alloc; 0; LINE_ROOM]?;
     let mut block = vec![in alloc; 0; size]?;
     let mut scratch = vec![in alloc; 0; size]?;
     let mut text = vec![in alloc; 0; REPLY_ROOM]?;
@@ -170,7 +168,6 @@ fn serve_script<F: Fingerprint, R: Rig, S: Source>(
         source,
         rig,
         print,
-        &mut line,
         &mut block,
         &mut scratch,
         &mut text,

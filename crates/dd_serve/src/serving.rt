@@ -9,18 +9,17 @@ ghost use Rattle.dd_script.specs.Script.{commands_of, EndsWithin};
 ghost use Rattle.dd_script.specs.Command.{read};
 ghost use Rattle.dd_serve.specs.declared.halt.Halt.TheVariants.{Output};
 ghost use Rattle.dd_serve.specs.Asks.{Asks};
-ghost use Rattle.dd_serve.specs.Causes.{Caused, Halts, ScriptHalts};
+ghost use Rattle.dd_serve.specs.Causes.{Caused, Halts, stop_of};
 ghost use Rattle.dd_serve.specs.Holds.{Fits, IsSound, OnlyFlash, state_of, sizes_of};
-ghost use Rattle.dd_serve.specs.Reading.{left, fuel, fronted, quits, BurnsUnlessQuit, Bounds};
+ghost use Rattle.dd_script.specs.Reading.{left, fuel, quits};
 ghost use Rattle.dd_serve.specs.Saying.{IsIdle, front_of};
 ghost use Rattle.dd_serve.specs.Serving.{AnswersLine, WritesAnswer, WritesLine, HaltsByFlash, CutsLine, ServedAll, ServedUpTo};
 
 use crate::cache::{Cache, CacheFault};
 use crate::halt::Halt;
-use crate::reader::Reader;
 use dd_block::Fingerprint;
 use dd_rig::{Dev, Rig, Source};
-use dd_script::{Line, Reply, Stop, parse, reply_read, write_reply};
+use dd_script::{Line, Reader, Reply, ScriptFault, Stop, reply_read, write_reply};
 
 /// The line that answers another, in a buffer: its length, and whether it says that a read failed.
 #[derive(Clone, Copy, Debug, PartialEq, Eq)]
@@ -38,12 +37,10 @@ pub fn serve<F: Fingerprint, R: Rig, S: Source>(
     source: &mut S,
     rig: &mut R,
     print: &F,
-    line: &mut [u8],
     block: &mut [u8],
     scratch: &mut [u8],
     text: &mut [u8],
 ) -> Result<bool, Halt>
-    requires line { length line.old ≡ 8449 }
     requires text { length text.old ≡ 8448 }
     requires size { (length block.old ≡ cache.old.block) × (length scratch.old ≡ cache.old.block) }
     requires some { 0 < cache.old.blocks }
@@ -64,7 +61,10 @@ pub fn serve<F: Fingerprint, R: Rig, S: Source>(
 {
     let mut faulted = false;
     'lines: loop {
-        let said = next_line(reader, source, line, cache.blocks)?;
+        let said = match reader.next(source, cache.blocks) {
+            Ok(said) => said,
+            Err(fault) => return Err(Halt::Stopped(stop_of(fault))),
+        };
         let failed = answer_line(cache, rig, print, said, block, scratch, text)?;
         faulted = faulted | failed;
         if is_quit(said) {
@@ -79,24 +79,13 @@ fn is_quit(said: Line) -> bool
     matches!(said, Line::Quit)
 }
 
-// The next line. Where the script has ended it is a q.
-fn next_line<S: Source>(
-    reader: &mut Reader,
-    source: &mut S,
-    line: &mut [u8],
-    blocks: u32,
-) -> Result<Line, Halt>
-    requires line { length line.old ≡ 8449 }
-    ensures command { S.tells → IfOk result (λ said. commands_of blocks (left reader.old (S.rest source.old)) ≡ fronted (told said) (commands_of blocks (left reader.new (S.rest source.new)))) }
-    ensures bounds { S.tells → IfOk result (λ said. Bounds said (EndsWithin (fuel reader.old) blocks (left reader.old (S.rest source.old))) (EndsWithin (fuel reader.new) blocks (left reader.new (S.rest source.new)))) }
-    ensures below { IfOk result (λ said. IsBelow blocks said) }
-    ensures fuel { IfOk result (λ said. BurnsUnlessQuit said (fuel reader.old) (fuel reader.new)) }
-    ensures later { S.failures source.old ≤ S.failures source.new }
-    ensures halt { IfErr result (λ halt. ScriptHalts (S.tells → EndsWithin (fuel reader.old) blocks (left reader.old (S.rest source.old)) → ⊥) halt (S.failures source.old) (S.failures source.new)) }
+// The line that tells why the script can't be read on.
+fn stop_of(fault: ScriptFault) -> Stop
+    ensures { result ≡ stop_of fault }
 {
-    match reader.next_line(source, line)? {
-        None => Ok(Line::Quit),
-        Some(size) => Ok(parse(&line[..size], blocks)),
+    match fault {
+        ScriptFault::Take => Stop::Script,
+        ScriptFault::Length => Stop::Length,
     }
 }
 

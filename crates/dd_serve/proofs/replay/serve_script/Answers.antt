@@ -8,7 +8,7 @@ use Rattle.dd_serve.specs.declared.cache.Cache.{Cache}
 use Rattle.dd_serve.specs.declared.halt.Halt.{Halt}
 use Rattle.dd_serve.specs.Causes.{Halts}
 use Rattle.dd_serve.specs.Holds.{Fits, IsSound, state_of, sizes_of}
-use Rattle.dd_serve.specs.Reading.{Held, left, fuel}
+use Rattle.dd_script.specs.Reading.{Held, left, fuel}
 use Rattle.dd_serve.specs.Run.{first_cache, IsBounded}
 use Rattle.dd_serve.specs.Serving.{ServedAll, ServedUpTo}
 use Rattle.dd_serve.proofs.Starts.{first_some, first_fits, first_sound, halts_by}

@@ -6,7 +6,7 @@ use Rattle.dd_model.specs.State.{Sizes, State}
 use Rattle.dd_serve.specs.declared.halt.Halt.{Halt}
 use Rattle.dd_serve.specs.declared.halt.Halt.TheVariants.{Output}
 use Rattle.dd_serve.specs.Serving.{CutsLine}
-use Rattle.dd_serve.proofs.Causes.{handed_on}
+use Rattle.dd_script.proofs.Handing.{handed_on}
 use Rattle.dd_serve.proofs.Answering.{cuts_written, answers_written, sound_said, state_said}
 use Rattle.dd_serve.proofs.serving.answer_line.Goals as goal
 

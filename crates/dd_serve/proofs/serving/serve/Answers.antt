@@ -5,11 +5,13 @@ use Rattle.dd_script.specs.Command.{Command}
 use Rattle.dd_script.specs.Line.{told}
 use Rattle.dd_script.specs.Script.{commands_of, EndsWithin}
 use Rattle.dd_serve.specs.declared.halt.Halt.{Halt}
+use Rattle.dd_serve.specs.declared.halt.Halt.TheVariants.{Stopped}
 use Rattle.dd_serve.specs.Holds.{state_of, sizes_of}
-use Rattle.dd_serve.specs.Reading.{left, fuel, fronted, quits}
+use Rattle.dd_script.specs.Reading.{left, fuel, fronted, quits}
 use Rattle.dd_serve.specs.Serving.{AnswersLine, CutsLine, ServedUpTo}
-use Rattle.dd_serve.proofs.Causes.{handed_on, any_error, falls_trans}
-use Rattle.dd_serve.proofs.Script.{bounds_other, burns_other}
+use Rattle.dd_serve.proofs.Causes.{falls_trans}
+use Rattle.dd_script.proofs.Handing.{handed_on}
+use Rattle.dd_script.proofs.Commanding.{bounds_other, burns_other}
 use Rattle.dd_serve.proofs.Going.{Going, going_line, going_all, halts_between, halts_command, commands_some, after_front, front_quit, front_other}
 use Rattle.dd_serve.proofs.serving.serve.Goals as goal
 
@@ -20,8 +22,8 @@ same_bound : (m n : ℕ) (fuel_before fuel_after : ℕ) (before after : List ℕ
     → (EndsWithin fuel_before n before → EndsWithin fuel_after n after) × (EndsWithin fuel_after n after → EndsWithin fuel_before n before)
 same_bound m n fuel_before fuel_after before after e h = subst (λ (k : ℕ). (EndsWithin fuel_before k before → EndsWithin fuel_after k after) × (EndsWithin fuel_after k after → EndsWithin fuel_before k before)) e h
 
-pub returns-in_err-said-clause-some : goal.returns-in_err-said-clause-some
-returns-in_err-said-clause-some g c = λ t u.
+pub returns-in-Err-clause-some : goal.returns-in-Err-clause-some
+returns-in-Err-clause-some g c = λ t u.
     let printed = g.F.Fingerprint.printed c.args.print.now in
     let world = g.R.Rig.world in
     let counts = g.R.Rig.counts in
@@ -30,8 +32,7 @@ returns-in_err-said-clause-some g c = λ t u.
     let sizes : Sizes = sizes_of c.args.cache.now in
     let start : State = state_of c.args.cache.now (world c.args.rig.now) in
     let commands : List Command = commands_of blocks (left c.args.reader.now (rest c.args.source.now)) in
-    any_error c.from_residual.result (λ (halt : Halt). ServedUpTo printed sizes start commands halt (world c.args.rig.now).said (world c.lines.rig).said (counts c.args.rig.now) (counts c.lines.rig))
-    (λ halt. halts_between printed sizes start commands (world c.args.rig.now).said (counts c.args.rig.now) halt c.lines.faulted (world c.lines.rig).said (counts c.lines.rig)
+    (halts_between printed sizes start commands (world c.args.rig.now).said (counts c.args.rig.now) (Stopped c.stop_of.result) c.lines.faulted (world c.lines.rig).said (counts c.lines.rig)
     (state_of c.lines.cache (world c.lines.rig)) (commands_of blocks (left c.lines.reader (rest c.lines.source))) (commands_some blocks (left c.lines.reader (rest c.lines.source))) (c.lines.invariant.told t u))
 
 pub returns-in_err-failed-clause-some : goal.returns-in_err-failed-clause-some
@@ -45,9 +46,9 @@ returns-in_err-failed-clause-some g c = λ t u.
     let start : State = state_of c.args.cache.now (world c.args.rig.now) in
     let commands : List Command = commands_of blocks (left c.args.reader.now (rest c.args.source.now)) in
     let now : List Command = commands_of blocks (left c.lines.reader (rest c.lines.source)) in
-    let next : List Command = commands_of blocks (left c.next_line.new.reader (rest c.next_line.new.source)) in
-    let o = told c.in_ok-said.said in
-    let front : now ≡ fronted o next = same_blocks c.lines.cache.blocks blocks o (left c.lines.reader (rest c.lines.source)) (left c.next_line.new.reader (rest c.next_line.new.source)) (ap (λ (z : Sizes). z.blocks) c.lines.invariant.sizes) (c.in_ok-said.ensures.command u) in
+    let next : List Command = commands_of blocks (left c.next.new.self (rest c.next.new.source)) in
+    let o = told c.in-Ok.said in
+    let front : now ≡ fronted o next = same_blocks c.lines.cache.blocks blocks o (left c.lines.reader (rest c.lines.source)) (left c.next.new.self (rest c.next.new.source)) (ap (λ (z : Sizes). z.blocks) c.lines.invariant.sizes) (c.in-Ok.ensures.command u) in
     let state : State = state_of c.lines.cache (world c.lines.rig) in
     let cut : CutsLine printed sizes c.in_err-failed.field-0.0 o state (world c.lines.rig).said (world c.answer_line.new.rig).said (counts c.lines.rig) (counts c.answer_line.new.rig) =
     subst (λ (z : Sizes). CutsLine printed z c.in_err-failed.field-0.0 o state (world c.lines.rig).said (world c.answer_line.new.rig).said (counts c.lines.rig) (counts c.answer_line.new.rig)) c.lines.invariant.sizes (c.in_err-failed.ensures.cut t) in
@@ -55,8 +56,8 @@ returns-in_err-failed-clause-some g c = λ t u.
     halts_command printed sizes start commands (world c.args.rig.now).said (counts c.args.rig.now) c.in_err-failed.field-0.0 o c.lines.faulted (world c.lines.rig).said (world c.answer_line.new.rig).said state
     (counts c.lines.rig) (counts c.answer_line.new.rig) next c.answer_line.ensures.later c.answer_line.ensures.asks (λ e. commands_some blocks (left c.lines.reader (rest c.lines.source)) (front ∙ e)) cut
     (subst (λ (l : List Command). Going printed sizes start commands (world c.args.rig.now).said (counts c.args.rig.now) c.lines.faulted (world c.lines.rig).said (counts c.lines.rig) state l) front (c.lines.invariant.told t u)) in
-    handed_on c.from_residual-in_err-failed.result _ (λ (halt : Halt). ServedUpTo printed sizes start commands halt (world c.args.rig.now).said (world c.answer_line.new.rig).said (counts c.args.rig.now) (counts c.answer_line.new.rig))
-    c.from_residual-in_err-failed.ensures.1
+    handed_on c.from_residual.result _ (λ (halt : Halt). ServedUpTo printed sizes start commands halt (world c.args.rig.now).said (world c.answer_line.new.rig).said (counts c.args.rig.now) (counts c.answer_line.new.rig))
+    c.from_residual.ensures.1
     (λ halt same. subst (λ (h : Halt). ServedUpTo printed sizes start commands h (world c.args.rig.now).said (world c.answer_line.new.rig).said (counts c.args.rig.now) (counts c.answer_line.new.rig)) (sym same) served)
 
 pub returns-then-is_quit-clause-all : goal.returns-then-is_quit-clause-all
@@ -70,9 +71,9 @@ returns-then-is_quit-clause-all g c = λ t u.
     let start : State = state_of c.args.cache.now (world c.args.rig.now) in
     let commands : List Command = commands_of blocks (left c.args.reader.now (rest c.args.source.now)) in
     let now : List Command = commands_of blocks (left c.lines.reader (rest c.lines.source)) in
-    let next : List Command = commands_of blocks (left c.next_line.new.reader (rest c.next_line.new.source)) in
-    let o = told c.in_ok-said.said in
-    let front : now ≡ fronted o next = same_blocks c.lines.cache.blocks blocks o (left c.lines.reader (rest c.lines.source)) (left c.next_line.new.reader (rest c.next_line.new.source)) (ap (λ (z : Sizes). z.blocks) c.lines.invariant.sizes) (c.in_ok-said.ensures.command u) in
+    let next : List Command = commands_of blocks (left c.next.new.self (rest c.next.new.source)) in
+    let o = told c.in-Ok.said in
+    let front : now ≡ fronted o next = same_blocks c.lines.cache.blocks blocks o (left c.lines.reader (rest c.lines.source)) (left c.next.new.self (rest c.next.new.source)) (ap (λ (z : Sizes). z.blocks) c.lines.invariant.sizes) (c.in-Ok.ensures.command u) in
     let state : State = state_of c.lines.cache (world c.lines.rig) in
     let after : State = state_of c.answer_line.new.cache (world c.answer_line.new.rig) in
     let answer : AnswersLine printed sizes o c.in_ok-failed.failed state after (world c.lines.rig).said (world c.answer_line.new.rig).said (counts c.lines.rig) (counts c.answer_line.new.rig) =
@@ -96,21 +97,21 @@ lines-preserved g c =
     let start : State = state_of c.args.cache.now (world c.args.rig.now) in
     let text : List ℕ = left c.args.reader.now (rest c.args.source.now) in
     let text_now : List ℕ = left c.lines.reader (rest c.lines.source) in
-    let text_next : List ℕ = left c.next_line.new.reader (rest c.next_line.new.source) in
+    let text_next : List ℕ = left c.next.new.self (rest c.next.new.source) in
     let commands : List Command = commands_of blocks text in
     let next : List Command = commands_of blocks text_next in
-    let o = told c.in_ok-said.said in
+    let o = told c.in-Ok.said in
     let same = ap (λ (z : Sizes). z.blocks) c.lines.invariant.sizes in
     let other : quits o ≡ false = sym c.is_quit.ensures ∙ c.if-is_quit.false in
     let state : State = state_of c.lines.cache (world c.lines.rig) in
     let after : State = state_of c.answer_line.new.cache (world c.answer_line.new.rig) in
     let faulted : Bool = c.lines.faulted || c.in_ok-failed.failed in
     let i = c.lines.invariant in
-    let bound = λ (u : g.S.Source.tells). same_bound c.lines.cache.blocks blocks (fuel c.lines.reader) (fuel c.next_line.new.reader) text_now text_next same (bounds_other c.in_ok-said.said _ _ other (c.in_ok-said.ensures.bounds u)) in
-    let burns = burns_other c.in_ok-said.said _ _ other c.in_ok-said.ensures.fuel in
+    let bound = λ (u : g.S.Source.tells). same_bound c.lines.cache.blocks blocks (fuel c.lines.reader) (fuel c.next.new.self) text_now text_next same (bounds_other c.in-Ok.said _ _ other (c.in-Ok.ensures.bounds u)) in
+    let burns = burns_other c.in-Ok.said _ _ other c.in-Ok.ensures.fuel in
     record {
       told = λ t u.
-          let front : commands_of blocks text_now ≡ fronted o next = same_blocks c.lines.cache.blocks blocks o text_now text_next same (c.in_ok-said.ensures.command u) in
+          let front : commands_of blocks text_now ≡ fronted o next = same_blocks c.lines.cache.blocks blocks o text_now text_next same (c.in-Ok.ensures.command u) in
           let answer : AnswersLine printed sizes o c.in_ok-failed.failed state after (world c.lines.rig).said (world c.answer_line.new.rig).said (counts c.lines.rig) (counts c.answer_line.new.rig) =
           subst (λ (z : Sizes). AnswersLine printed z o c.in_ok-failed.failed state after (world c.lines.rig).said (world c.answer_line.new.rig).said (counts c.lines.rig) (counts c.answer_line.new.rig)) i.sizes (c.in_ok-failed.ensures.answer t) in
           let going = going_line printed sizes start commands (world c.args.rig.now).said (counts c.args.rig.now) o c.in_ok-failed.failed c.lines.faulted (world c.lines.rig).said (world c.answer_line.new.rig).said state after
@@ -127,5 +128,5 @@ lines-preserved g c =
       bounds = λ u within. (bound u).0 (i.bounds u within);
       untouched = c.answer_line.ensures.untouched ∙ i.untouched;
       later = falls_trans _ _ _ i.later c.answer_line.ensures.later;
-      later_source = omega (arith, i.later_source, c.next_line.ensures.later);
+      later_source = omega (arith, i.later_source, c.next.ensures.later);
     }

@@ -1,9 +1,21 @@
--- What is left of a script.
+-- A script as it is read: what is left of it, and what a line uses up.
 use Rattle.std.specs.Prelude.{◌≡◌, ◌≢◌, ◌⊎◌, ◌+◌, ◌-◌, ◌<◌, ◌≤◌, ◌==◌, ℕ, Bool, true, false, List, [], ◌∷◌, ◌++◌, length, take, Option, Some, None, if◌then◌else◌, ⊤}
+use Rattle.dd_rig.specs.Counts.{Rose}
 use Rattle.dd_script.specs.declared.line.Line.{Line}
 use Rattle.dd_script.specs.declared.line.Line.TheVariants as line_is
 use Rattle.dd_script.specs.Command.{Command, read, quit, bad}
-use Rattle.dd_script.specs.Script.{is_quit}
+use Rattle.dd_script.specs.Line.{line_room, told}
+use Rattle.dd_script.specs.Script.{is_quit, EndsWithin}
+use Rattle.dd_script.specs.declared.pieces.ScriptFault.{ScriptFault}
+use Rattle.dd_script.specs.declared.pieces.ScriptFault.TheVariants as fault
+
+-- how many bytes of a script are taken at most: 2^40
+abbrev pub script_limit : ℕ
+script_limit = 1099511627776
+
+-- how many are taken at once
+abbrev pub piece_size : ℕ
+piece_size = 4096
 
 -- bytes taken and not yet read, how many were taken in all, and whether the end has come
 pub record Held : Type 0 where
@@ -17,7 +29,7 @@ left held rest = held.bytes ++ (if held.ended then [] else rest)
 
 -- how many bytes may still be read
 abbrev pub fuel : Held → ℕ
-fuel held = length held.bytes + (1099511627776 - held.taken)
+fuel held = length held.bytes + (script_limit - held.taken)
 
 -- the next byte, or the end
 abbrev pub NextByte : Option ℕ → List ℕ → List ℕ → Type 0
@@ -47,7 +59,7 @@ has_end (b ∷ bytes) = if b == 10 then true else has_end bytes
 -- the next line, as far as it is kept, or the end
 abbrev pub NextLine : Option ℕ → List ℕ → List ℕ → List ℕ → Type 0
 NextLine None buffer before after = (before ≡ []) × (after ≡ [])
-NextLine (Some n) buffer before after = (before ≢ []) × (take n buffer ≡ take 8449 (first_line before)) × (after ≡ after_line before)
+NextLine (Some n) buffer before after = (before ≢ []) × (take n buffer ≡ take line_room (first_line before)) × (after ≡ after_line before)
 
 -- what was found used up some of what may be read
 abbrev pub LineBurns : Option ℕ → ℕ → ℕ → Type 0
@@ -83,3 +95,19 @@ BurnsUnlessQuit line before after = after < before
 abbrev pub Bounds : Line → Type 0 → Type 0 → Type 0
 Bounds line_is.Quit before after = before
 Bounds line before after = (before → after) × (after → before)
+
+-- A script that ends within its first n bytes has its first line within them, and where that is no quit the lines behind it end
+-- within as many less.
+abbrev pub Passes : ℕ → Line → List ℕ → List ℕ → Type 0
+Passes blocks line before after =
+    (n : ℕ) → EndsWithin n blocks before → (length before ≤ n + length after) × (quits (told line) ≡ false → EndsWithin (n + length after - length before) blocks after)
+
+-- No more than a piece is taken behind the end of a script, or behind its quit: one that ends within its first n bytes has at most
+-- so many more taken.
+abbrev pub IsTakenTo : ℕ → List ℕ → List ℕ → Type 0
+IsTakenTo blocks script rest = (n : ℕ) → EndsWithin n blocks script → length script ≤ length rest + (n + piece_size)
+
+-- why a script can't be read on: a take failed, or this, which says that it is too long
+abbrev pub Fails : Type 0 → ScriptFault → (failed_before failed_after : ℕ) → Type 0
+Fails long fault.Take failed_before failed_after = Rose failed_before failed_after
+Fails long fault.Length failed_before failed_after = long

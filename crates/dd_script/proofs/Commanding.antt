@@ -1,6 +1,7 @@
--- A script, line by line.
-use Rattle.std.proofs.Common.{◌≡◌, ◌≢◌, inl, inr, ⊎_elim, ℕ, zero, suc, ◌+◌, ◌<◌, ◌≤◌, ◌==◌, Bool, true, false, List, [], ◌∷◌, ◌++◌, length, take, refl, sym, ◌∙◌, ap, subst, arith, Some, None, if◌then◌else◌}
+-- The commands of a script, line by line.
+use Rattle.std.proofs.Common.{◌≡◌, ◌≢◌, inl, inr, ⊎_elim, ℕ, zero, suc, ◌+◌, ◌-◌, ◌<◌, ◌≤◌, ◌==◌, Bool, true, false, List, [], ◌∷◌, ◌++◌, length, take, refl, sym, ◌∙◌, ap, subst, arith, Some, None, if◌then◌else◌}
 use Rattle.std.specs.Prelude.{Option, ◌||◌}
+use Rattle.std.proofs.lemmas.Bool.{cases_lt}
 use Rattle.std.specs.List.{filter_map, cons_option, list_any}
 use Rattle.dd_script.specs.declared.line.Line.{Line}
 use Rattle.dd_script.specs.declared.line.Line.TheVariants as line_is
@@ -8,7 +9,9 @@ use Rattle.dd_script.specs.Command.{Command, read, quit, bad}
 use Rattle.dd_script.specs.Line.{command_of_line, told}
 use Rattle.dd_script.specs.Script.{Lines, lines_of, onto_lines, onto_first, last_line, script_lines, through_quit, commands_of, is_quit, has_quit, EndsWithin}
 use Rattle.dd_script.proofs.Parsing.{command_of_line-take}
-use Rattle.dd_serve.specs.Reading.{first_line, after_line, has_end, NextLine, EndsInside, Spends, fronted, quits, Bounds, BurnsUnlessQuit}
+use Rattle.dd_script.specs.declared.pieces.ScriptFault.{ScriptFault}
+use Rattle.dd_script.specs.declared.pieces.ScriptFault.TheVariants as fault
+use Rattle.dd_script.specs.Reading.{first_line, after_line, has_end, NextLine, EndsInside, Spends, fronted, quits, Bounds, BurnsUnlessQuit, Passes, Fails}
 
 -- where no line ends
 pub record Unended (bytes : List ℕ) : Type 0 where
@@ -240,3 +243,31 @@ burns_other line_is.Skip before after e h = h
 burns_other (line_is.Read address) before after e h = h
 burns_other line_is.Quit before after e h = absurd (cc)
 burns_other (line_is.Bad kind) before after e h = h
+
+-- a line uses up no more than its bytes and its end
+used_at : (k : Bool) (bytes : List ℕ) → has_end bytes ≡ k → length bytes ≤ length (first_line bytes) + 1 + length (after_line bytes)
+used_at true bytes e = omega (arith, (ended_line bytes e).size)
+used_at false bytes e = omega (arith, ap length (unended bytes e).first)
+
+passes_line : (blocks n : ℕ) (before : List ℕ) → EndsWithin n blocks before → length before ≤ n + length (after_line before)
+passes_line blocks n before within = ⊎_elim
+    (λ (short : n < length (first_line before) + 1). absurd (too_long blocks n before (omega (arith, short)) within))
+    (λ (long : length (first_line before) + 1 ≤ n). omega (arith, long, used_at (has_end before) before refl))
+    (cases_lt n (length (first_line before) + 1))
+
+-- a line of a script that ends within so many bytes
+pub passes_step : (blocks n : ℕ) (buffer before after : List ℕ) (said : Line) → NextLine (Some n) buffer before after → told said ≡ command_of_line blocks (take n buffer) → Passes blocks said before after
+passes_step blocks n buffer before after said h e =
+    subst (λ (rest : List ℕ). Passes blocks said before rest) (sym h.2) (λ most within.
+    let is : told said ≡ command_of_line blocks (first_line before) = e ∙ line_command blocks n buffer before after h in
+    let fits : length before ≤ most + length (after_line before) = passes_line blocks most before within in
+    let spends : Spends before (after_line before) most (most + length (after_line before) - length before) = omega (arith, fits) in
+    (fits, λ q. (other_inside_at (has_end before) blocks most (most + length (after_line before) - length before) before refl spends (ap quits (sym is) ∙ q)).0 within))
+
+-- its end
+pub passes_end : (blocks : ℕ) (before after : List ℕ) → before ≡ [] → after ≡ [] → Passes blocks line_is.Quit before after
+passes_end blocks before after h k = λ n within. let size = ap length h in (omega (arith, size), λ q. absurd (cc))
+
+pub fails_by : (P Q : Type 0) → (P → Q) → (why : ScriptFault) (m n : ℕ) → Fails P why m n → Fails Q why m n
+fails_by P Q w fault.Take m n h = h
+fails_by P Q w fault.Length m n h = w h

@@ -1,27 +1,34 @@
-// A script, read from its source in pieces and cut into lines.
+// A script, taken from its source in pieces and cut into lines.
 ghost use Rattle.std.specs.Prelude.{◌≡◌, ◌+◌, ◌-◌, ◌<◌, ◌≤◌, ◌≢◌, ◌↔◌, ◌++◌, [], length, take, OnErr, IfOk, OnOk, IfErr, IfSome, true, false};
 ghost use Rattle.dd_rig.specs.Counts.{Rose};
-ghost use Rattle.dd_serve.specs.Reading.{Held, left, fuel, first_line, after_line, NextByte, NextLine, ByteBurns, LineBurns, EndsInside, Spends};
-ghost use Rattle.dd_serve.specs.Causes.{ScriptHalts};
+ghost use Rattle.dd_script.specs.Line.{line_room};
+ghost use Rattle.dd_script.specs.Reading.{Held, left, fuel, piece_size, first_line, NextByte, NextLine, ByteBurns, LineBurns, EndsInside, Spends, Fails};
 
-use crate::halt::Halt;
 use dd_rig::{Failed, Source};
-use dd_script::Stop;
 use std::alloc::{AllocError, Global};
 use std::marker::Model;
 
-/// How many bytes of a script are taken at most.
-pub const SCRIPT_LIMIT: u64 = 1_099_511_627_776;
+/// Why the script can't be read on.
+#[derive(Clone, Copy, Debug, PartialEq, Eq)]
+pub enum ScriptFault {
+    /// A take of its source failed.
+    Take,
+    /// It has 2^40 bytes or more.
+    Length,
+}
+
+/// How many bytes of a script are taken at most: 2^40.
+const SCRIPT_LIMIT: u64 = 1_099_511_627_776;
 
 /// How many bytes of a line are kept: one more than a line may have.
 pub const LINE_ROOM: usize = 8_449;
 
-/// What is taken at once.
+// What is taken at once.
 const PIECE: usize = 4_096;
 
 /// What was taken from a source and not yet read.
 #[derive(Drop)]
-pub struct Reader {
+pub struct Pieces {
     buffer: Vec<u8>,
     from: usize,
     until: usize,
@@ -29,22 +36,22 @@ pub struct Reader {
     ended: bool,
 }
 
-impl Model for Reader {
+impl Model for Pieces {
     ghost use Rattle.std.specs.Prelude.{◌≤◌, ◌<◌, ◌≡◌, true, slice_range, vec_len};
-    ghost use Rattle.dd_serve.specs.Reading.{Held};
+    ghost use Rattle.dd_script.specs.Reading.{Held, piece_size, script_limit};
 
     ghost Value = { Held };
 
     ghost view = { λ r. record { bytes = slice_range r.buffer.items r.from r.until; taken = r.taken; ended = r.ended } };
 
-    ghost invariant = { λ r. (r.from ≤ r.until) × (r.until ≤ vec_len r.buffer) × (vec_len r.buffer ≡ 4096) × (r.taken ≤ 1099511627776) × (r.ended ≡ true → r.taken < 1099511627776) };
+    ghost invariant = { λ r. (r.from ≤ r.until) × (r.until ≤ vec_len r.buffer) × (vec_len r.buffer ≡ piece_size) × (r.taken ≤ script_limit) × (r.ended ≡ true → r.taken < script_limit) };
 }
 
-impl Reader {
+impl Pieces {
     pub fn new(alloc: Global) -> Result<Self, AllocError>
-        ensures { IfOk result (λ reader. reader ≡ record { bytes = []; taken = 0; ended = false }) }
+        ensures { IfOk result (λ pieces. pieces ≡ record { bytes = []; taken = 0; ended = false }) }
     {
-        Ok(Reader {
+        Ok(Pieces {
             buffer: vec![in alloc; 0; PIECE]?,
             from: 0,
             until: 0,
@@ -54,11 +61,12 @@ impl Reader {
     }
 
     /// The next byte of the script, or None at its end.
-    pub fn next_byte<S: Source>(&mut self, source: &mut S) -> Result<Option<u8>, Halt>
+    pub fn next_byte<S: Source>(&mut self, source: &mut S) -> Result<Option<u8>, ScriptFault>
         ensures byte { S.tells → IfOk result (λ byte. NextByte byte (left self.old (S.rest source.old)) (left self.new (S.rest source.new))) }
+        ensures piece { OnOk result (length self.new.bytes ≤ piece_size) }
         ensures fuel { IfOk result (λ byte. ByteBurns byte (fuel self.old) (fuel self.new)) }
         ensures later { S.failures source.old ≤ S.failures source.new }
-        ensures halt { IfErr result (λ halt. ScriptHalts (fuel self.old ≡ 0) halt (S.failures source.old) (S.failures source.new)) }
+        ensures fault { IfErr result (λ fault. Fails (fuel self.old ≡ 0) fault (S.failures source.old) (S.failures source.new)) }
     {
         self.fill(source)?;
         if self.from == self.until {
@@ -70,22 +78,22 @@ impl Reader {
     }
 
     // Takes the next piece, where nothing is held and the end hasn't come.
-    fn fill<S: Source>(&mut self, source: &mut S) -> Result<(), Halt>
+    fn fill<S: Source>(&mut self, source: &mut S) -> Result<(), ScriptFault>
         ensures same { S.tells → OnOk result (left self.new (S.rest source.new) ≡ left self.old (S.rest source.old)) }
         ensures ended { OnOk result (self.new.bytes ≡ [] → self.new.ended ≡ true) }
         ensures fuel { OnOk result (fuel self.new ≡ fuel self.old) }
         ensures later { S.failures source.old ≤ S.failures source.new }
-        ensures halt { IfErr result (λ halt. ScriptHalts (fuel self.old ≡ 0) halt (S.failures source.old) (S.failures source.new)) }
+        ensures fault { IfErr result (λ fault. Fails (fuel self.old ≡ 0) fault (S.failures source.old) (S.failures source.new)) }
     {
         if self.from < self.until || self.ended {
             return Ok(());
         }
         let room = SCRIPT_LIMIT - self.taken;
         if room == 0 {
-            return Err(Halt::Stopped(Stop::Length));
+            return Err(ScriptFault::Length);
         }
         let Ok(count) = take_piece(source, &mut self.buffer, room) else {
-            return Err(Halt::Stopped(Stop::Script));
+            return Err(ScriptFault::Take);
         };
         self.from = 0;
         self.until = count;
@@ -100,15 +108,16 @@ impl Reader {
         &mut self,
         source: &mut S,
         into: &mut [u8],
-    ) -> Result<Option<usize>, Halt>
-        requires { length into.old ≡ 8449 }
+    ) -> Result<Option<usize>, ScriptFault>
+        requires { length into.old ≡ line_room }
         ensures line { S.tells → IfOk result (λ size. NextLine size into.new (left self.old (S.rest source.old)) (left self.new (S.rest source.new))) }
-        ensures fits { IfOk result (λ size. IfSome size (λ n. n ≤ 8449)) }
+        ensures fits { IfOk result (λ size. IfSome size (λ n. n ≤ line_room)) }
+        ensures piece { OnOk result (length self.new.bytes ≤ piece_size) }
         ensures fuel { IfOk result (λ size. LineBurns size (fuel self.old) (fuel self.new)) }
         ensures inside { S.tells → OnOk result (EndsInside (left self.old (S.rest source.old)) (fuel self.new)) }
         ensures spends { S.tells → OnOk result (Spends (left self.old (S.rest source.old)) (left self.new (S.rest source.new)) (fuel self.old) (fuel self.new)) }
         ensures later { S.failures source.old ≤ S.failures source.new }
-        ensures halt { IfErr result (λ halt. ScriptHalts (S.tells → fuel self.old ≤ length (first_line (left self.old (S.rest source.old)))) halt (S.failures source.old) (S.failures source.new)) }
+        ensures fault { IfErr result (λ fault. Fails (S.tells → fuel self.old ≤ length (first_line (left self.old (S.rest source.old)))) fault (S.failures source.old) (S.failures source.new)) }
     {
         let mut size = 0;
         let mut begun = false;

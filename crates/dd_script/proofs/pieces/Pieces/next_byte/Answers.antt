@@ -1,7 +1,7 @@
 use Rattle.std.proofs.Common.{◌<◌, ◌++◌, [], ℕ, List, sym, ◌∙◌, ap, arith, if◌then◌else◌}
-use Rattle.dd_serve.specs.Reading.{Held, left}
-use Rattle.dd_serve.proofs.Reading.{range_step}
-use Rattle.dd_serve.proofs.reader.Reader.next_byte.Goals as goal
+use Rattle.dd_script.specs.Reading.{Held, left}
+use Rattle.dd_script.proofs.Reading.{range_step}
+use Rattle.dd_script.proofs.pieces.Pieces.next_byte.Goals as goal
 
 pub returns-clause-byte : goal.returns-clause-byte
 returns-clause-byte g c = λ t.
