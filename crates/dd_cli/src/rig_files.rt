@@ -58,6 +58,8 @@ impl<W: Write> Rig for RigFiles<W> {
 
     ghost counts_now = { λ r t o told. absurd told };
 
+    ghost since_earlier = { λ r s t o told. absurd told };
+
     ghost only_now = { λ r o told. absurd told };
 
     ghost shows_image = { λ r dev told. absurd told };

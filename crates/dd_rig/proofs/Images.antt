@@ -46,10 +46,6 @@ write_shows at bytes device image = record {
   same_outside = λ place out. overwrite_outside at bytes device.shown place out.0 ∙ image.same_outside place out.1;
 }
 
--- each image of a device with no ranges is its stable bytes, place by place
-pub image_of_stable : (device : Device) (bytes : List ℕ) → IsImage (make_stable device) bytes → (place : ℕ) → get_or bytes place 0 ≡ get_or device.shown place 0
-image_of_stable device bytes image place = image.same_outside place tt
-
 -- after a sync there is no image that wasn't one before
 pub sync_adds_none : (device : Device) (bytes : List ℕ) → IsImage device device.shown → IsImage (make_stable device) bytes → IsImage device bytes
 sync_adds_none device bytes shown image = record {
@@ -68,6 +64,19 @@ after_is_within Disk at bytes world o left = record {
   flash = left.flash;
   disk = record { same_length = left.disk.same_length; same_outside = left.disk.same_outside };
   out = left.out;
+}
+
+-- and a crash within it leaves what one after it may
+pub within_is_after : (dev : Dev) (at : ℕ) (bytes : List ℕ) (world : World) (o : Outcome) → WithinWrite dev at (length bytes) world o → MayLeave (on_device dev (write_bytes at bytes) world) o
+within_is_after Flash at bytes world o within = record {
+  flash = record { same_length = within.flash.same_length; same_outside = within.flash.same_outside };
+  disk = within.disk;
+  out = within.out;
+}
+within_is_after Disk at bytes world o within = record {
+  flash = within.flash;
+  disk = record { same_length = within.disk.same_length; same_outside = within.disk.same_outside };
+  out = within.out;
 }
 
 -- a crash after a sync leaves what a crash before it might

@@ -1,9 +1,9 @@
 -- What writes and syncs leave of what a read gives.
-use Rattle.std.proofs.Common.{◌≡◌, inl, inr, ⊎_elim, ℕ, ◌+◌, ◌≤◌, List, length, refl, sym, ◌∙◌, ap, subst, arith}
+use Rattle.std.proofs.Common.{inl, inr, ⊎_elim, ℕ, ◌+◌, ◌≤◌, List, length, refl, sym, ◌∙◌, subst, arith}
 use Rattle.dd_rig.specs.declared.device.Dev.{Dev}
 use Rattle.dd_rig.specs.declared.device.Dev.TheVariants.{Flash, Disk}
 use Rattle.dd_rig.specs.Device.{write_bytes, make_stable}
-use Rattle.dd_rig.specs.World.{World, device_of, on_device, ShowsSome, SyncsOrStays, SaysSome}
+use Rattle.dd_rig.specs.World.{World, on_device, ShowsSome, SyncsOrStays}
 use Rattle.dd_rig.specs.Leaves.{LeavesShown}
 use Rattle.dd_rig.proofs.Overwrite.{overwrite_outside}
 
@@ -37,8 +37,3 @@ synced_leaves Disk at size world = record { same_shown = λ place out. refl; sam
 pub sync_leaves : (dev : Dev) (at size : ℕ) (old new : World) → SyncsOrStays dev old new → LeavesShown dev at size old new
 sync_leaves dev at size old new (inl same) = subst (LeavesShown dev at size old) (sym same) (nothing_left dev at size old)
 sync_leaves dev at size old new (inr synced) = subst (LeavesShown dev at size old) (sym synced) (synced_leaves dev at size old)
-
--- an emit, failed or not, leaves both devices
-pub emit_leaves : (dev : Dev) (piece : List ℕ) (old new : World) → SaysSome piece old new → device_of dev new ≡ device_of dev old
-emit_leaves Flash piece old new said = ap (λ (w : World). w.flash) said.1
-emit_leaves Disk piece old new said = ap (λ (w : World). w.disk) said.1

@@ -1,9 +1,7 @@
 -- Parts of a device that no crash changes.
 use Rattle.std.proofs.Common.{◌≡◌, inl, inr, ⊎_elim, ℕ, ◌+◌, ◌<◌, ◌≤◌, List, [], ◌∷◌, length, take, drop, sym, ◌∙◌, arith, length-take, length-drop}
 use Rattle.std.proofs.lemmas.List.{get_or-take, get_or-drop, ext_get_or}
-use Rattle.dd_rig.specs.declared.device.Dev.{Dev}
 use Rattle.dd_rig.specs.Device.{Device, IsImage, IsOutside}
-use Rattle.dd_rig.specs.World.{World, device_of, shown}
 use Rattle.dd_rig.specs.Leaves.{MeetsNone}
 
 -- each place of a part that meets no range is outside of them
@@ -25,11 +23,3 @@ part_is_stable device bytes at size image clear = ext_get_or 0 (take size (drop 
 
     within : (k : ℕ) → k < length (take size (drop at bytes)) → k < size
     within k lt = omega (arith, length-take size (drop at bytes))
-
--- and so it is the same in all images
-pub parts_agree : (device : Device) (one another : List ℕ) (at size : ℕ) → IsImage device one → IsImage device another → MeetsNone device.ranges at size → take size (drop at one) ≡ take size (drop at another)
-parts_agree device one another at size image other clear = part_is_stable device one at size image clear ∙ sym (part_is_stable device another at size other clear)
-
--- what is shown has the device's size
-pub shown_has_size : (dev : Dev) (world : World) (size : ℕ) → IsImage (device_of dev world) (shown dev world) → length (device_of dev world).stable ≡ size → length (shown dev world) ≡ size
-shown_has_size dev world size image sized = image.same_length ∙ sized

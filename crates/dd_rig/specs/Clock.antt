@@ -1,6 +1,6 @@
 -- Moments, and what a crash at some moment since one of them may have left.
-use Rattle.std.specs.Prelude.{◌≡◌, ◌⊎◌, ◌<◌, ◌≤◌, ℕ, List}
-use Rattle.dd_rig.specs.World.{World, Outcome, WithinEmit}
+use Rattle.std.specs.Prelude.{◌≡◌, ◌⊎◌, ◌<◌, ◌≤◌, ℕ}
+use Rattle.dd_rig.specs.World.{World, Outcome}
 
 pub record Clock : Type 1 where
   pub moment : ℕ
@@ -21,7 +21,8 @@ AddsNone before after = Elapses before after (λ o. ⊥)
 abbrev pub MovesOn : World → World → Clock → Clock → Type 0
 MovesOn old new before after = ((new ≡ old) × AddsNone before after) ⊎ (before.moment < after.moment)
 
--- An emit was begun, and a crash within it counts for every moment up to its beginning; or it wasn't and changed nothing.
-abbrev pub StaysOrCounts : List ℕ → World → World → Clock → Clock → Type 0
-StaysOrCounts piece old new before after =
-    (new ≡ old) ⊎ ((t : ℕ) (o : Outcome) → t ≤ before.moment → WithinEmit piece old o → after.left_since t o)
+-- A call was never begun: it changed nothing and adds nothing. Or it was begun, and what a crash within it leaves counts for
+-- every moment up to its beginning.
+abbrev pub NoneOrCounts : (Outcome → Type 0) → World → World → Clock → Clock → Type 0
+NoneOrCounts Within old new before after =
+    ((new ≡ old) × AddsNone before after) ⊎ ((t : ℕ) (o : Outcome) → t ≤ before.moment → Within o → after.left_since t o)

@@ -73,3 +73,30 @@ pub record IsQuiet (before after : Counts) : Type 0 where
   pub disk_reads : IsStill before.disk.failed_reads after.disk.failed_reads
   pub disk_writes : IsStill before.disk.failed_writes after.disk.failed_writes
   pub emits : IsStill before.failed_emits after.failed_emits
+
+-- What every call keeps, and so every run of calls: no count of failures falls, and each device has its size.
+abbrev pub Frame : (before after : Counts) (sizes sizes_after : Dev → ℕ) → Type 0
+Frame before after sizes sizes_after = NeverFalls before after × (sizes_after ≡ sizes)
+
+-- how many calls of a device may be made: reads, writes and syncs together, and the bytes of the writes
+pub record Quota : Type 0 where
+  pub reads : ℕ
+  pub writes : ℕ
+  pub bytes : ℕ
+
+-- so many reads, so many writes and syncs, and so many bytes
+abbrev pub up_to : (reads writes bytes : ℕ) → Quota
+up_to reads writes bytes = record { reads = reads; writes = writes; bytes = bytes }
+
+-- no call at all
+abbrev pub nothing : Quota
+nothing = up_to 0 0 0
+
+-- a device was called no more often than that
+abbrev pub CalledAtMost : Quota → Calls → Calls → Type 0
+CalledAtMost most before after =
+    (after.reads ≤ before.reads + most.reads) × (after.writes ≤ before.writes + most.writes) × (after.written ≤ before.written + most.bytes)
+
+-- no more calls were made than these, on the flash and on the disk
+abbrev pub Makes : (flash disk : Quota) → Counts → Counts → Type 0
+Makes flash disk before after = CalledAtMost flash before.flash after.flash × CalledAtMost disk before.disk after.disk

@@ -35,6 +35,10 @@ pub record MayLeave (world : World) (outcome : Outcome) : Type 0 where
   pub disk : IsImage world.disk outcome.disk
   pub out : outcome.out ≡ world.said
 
+-- a pair of devices that a crash now may leave
+abbrev pub IsOwn : World → (flash disk : List ℕ) → Type 0
+IsOwn world flash disk = IsImage world.flash flash × IsImage world.disk disk
+
 -- the output goes on
 abbrev pub say : List ℕ → World → World
 say piece world = record world { said = world.said ++ piece }

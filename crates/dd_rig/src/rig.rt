@@ -4,7 +4,7 @@ ghost use Rattle.dd_rig.specs.declared.device.Dev.{Dev};
 ghost use Rattle.dd_rig.specs.declared.tallies.Counts.{Counts};
 ghost use Rattle.dd_rig.specs.Device.{Device, IsImage, write_bytes, make_stable};
 ghost use Rattle.dd_rig.specs.World.{World, Outcome, device_of, shown, on_device, say, MayLeave, WithinWrite, WithinEmit, ShowsSome, SyncsOrStays, SaysSome};
-ghost use Rattle.dd_rig.specs.Clock.{Clock, Elapses, AddsNone, MovesOn, StaysOrCounts};
+ghost use Rattle.dd_rig.specs.Clock.{Clock, Elapses, AddsNone, MovesOn, NoneOrCounts};
 ghost use Rattle.dd_rig.specs.Counts.{count_read, count_write, count_sync, count_emit, calls_of, NeverFalls, Rose};
 
 use crate::{Dev, Failed};
@@ -13,6 +13,9 @@ use crate::{Dev, Failed};
 ///
 /// A call that fails says so by `Failed`, and by a count of its device and kind. What a crash may
 /// leave, at each moment of each call, is told by `clock`: see docs/devices.md.
+///
+/// Of the clauses of a call, `counts` is the whole of what it counts: `later` and `cause` follow from
+/// it, and are there for callers. In the same way the clause `any` of a sync follows from `ok` and `err`.
 pub trait Rig {
     /// Whether the rig tells its bytes. One over real files doesn't.
     ghost tells: { Type 0 };
@@ -51,6 +54,7 @@ pub trait Rig {
         ensures any { tells → ShowsSome dev at (length from.now) (world self.old) (world self.new) }
         ensures time { tells → Elapses (clock self.old) (clock self.new) (WithinWrite dev at (length from.now) (world self.old)) }
         ensures moves { tells → MovesOn (world self.old) (world self.new) (clock self.old) (clock self.new) }
+        ensures within { tells → NoneOrCounts (WithinWrite dev at (length from.now) (world self.old)) (world self.old) (world self.new) (clock self.old) (clock self.new) }
         ensures counts { counts self.new ≡ count_write dev (length from.now) result (counts self.old) }
         ensures later { NeverFalls (counts self.old) (counts self.new) }
         ensures cause { OnErr result (Rose (calls_of dev (counts self.old)).failed_writes (calls_of dev (counts self.new)).failed_writes) }
@@ -76,7 +80,7 @@ pub trait Rig {
         ensures any { tells → SaysSome piece.now (world self.old) (world self.new) }
         ensures time { tells → Elapses (clock self.old) (clock self.new) (WithinEmit piece.now (world self.old)) }
         ensures moves { tells → MovesOn (world self.old) (world self.new) (clock self.old) (clock self.new) }
-        ensures within { tells → StaysOrCounts piece.now (world self.old) (world self.new) (clock self.old) (clock self.new) }
+        ensures within { tells → NoneOrCounts (WithinEmit piece.now (world self.old)) (world self.old) (world self.new) (clock self.old) (clock self.new) }
         ensures counts { counts self.new ≡ count_emit result (counts self.old) }
         ensures later { NeverFalls (counts self.old) (counts self.new) }
         ensures cause { OnErr result (Rose (counts self.old).failed_emits (counts self.new).failed_emits) }
@@ -84,6 +88,9 @@ pub trait Rig {
 
     /// A crash now is one since any moment so far.
     ghost counts_now: { (rig : Self) (t : ℕ) (o : Outcome) → tells → t ≤ (clock rig).moment → MayLeave (world rig) o → (clock rig).left_since t o };
+
+    /// What a crash since a moment may have left, one since an earlier moment may have left too.
+    ghost since_earlier: { (rig : Self) (s t : ℕ) (o : Outcome) → tells → s ≤ t → t ≤ (clock rig).moment → (clock rig).left_since t o → (clock rig).left_since s o };
 
     /// Since this moment there is no other.
     ghost only_now: { (rig : Self) (o : Outcome) → tells → (clock rig).left_since (clock rig).moment o → MayLeave (world rig) o };

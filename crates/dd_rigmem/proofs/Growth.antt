@@ -7,7 +7,7 @@ use Rattle.dd_rig.specs.Device.{Device}
 use Rattle.dd_rig.specs.World.{World, Outcome, MayLeave, WithinWrite, WithinEmit, device_of, on_device, say}
 use Rattle.dd_rig.specs.Clock.{Elapses, MovesOn}
 use Rattle.std.specs.Prelude.{OnOk, OnErr}
-use Rattle.dd_rig.proofs.Images.{after_is_within, after_sync_is_before}
+use Rattle.dd_rig.proofs.Images.{after_is_within, within_is_after, after_sync_is_before}
 use Rattle.dd_rig.proofs.Moments.{starts, widens}
 use Rattle.dd_rigmem.specs.declared.event.Event.{Event}
 use Rattle.dd_rigmem.specs.declared.event.Event.TheVariants.{Wrote, Synced, Emitted}
@@ -67,6 +67,8 @@ wrote w history = record {
   any = inr (w.bytes, refl, world_grown (Wrote w) history);
   time = widens (time_grown (Wrote w) history) (λ o within. ⊎_elim (λ none. absurd none) (after_is_within w.dev w.at w.bytes (world_of history) o) within);
   moves = moves_grown (Wrote w) history;
+  within = inr (λ t o le within. counts_now (history.events ++ Wrote w ∷ []) (start_of history.start) t o (omega (arith, le, length-append history.events (Wrote w ∷ [])))
+      (subst (λ (now : World). MayLeave now o) (sym (world_grown (Wrote w) history)) (within_is_after w.dev w.at w.bytes (world_of history) o within)));
 }
 
 pub wrote_none : (dev : Dev) (at size : ℕ) (history : History) → Writes dev at size history history
@@ -74,6 +76,7 @@ wrote_none dev at size history = record {
   any = inl refl;
   time = starts (clock_of history) (WithinWrite dev at size (world_of history));
   moves = inl (refl, starts (clock_of history) (λ o. ⊥));
+  within = inl (refl, starts (clock_of history) (λ o. ⊥));
 }
 
 -- a sync, recorded, adds no outcome
@@ -90,13 +93,6 @@ synced dev history =
       };
       moves = moves_grown (Synced dev) history;
     }
-
-pub synced_none : (dev : Dev) (history : History) → Syncs dev history history
-synced_none dev history = record {
-  any = inl refl;
-  time = starts (clock_of history) (λ o. ⊥);
-  moves = inl (refl, starts (clock_of history) (λ o. ⊥));
-}
 
 -- an emit, recorded
 pub emitted : (e : EmitRecord) (history : History) → Emits e.piece history (grown (Emitted e) history)
@@ -116,7 +112,7 @@ emitted_none piece history = record {
   any = (0, sym (say_nothing (world_of history)));
   time = starts (clock_of history) (WithinEmit piece (world_of history));
   moves = inl (refl, starts (clock_of history) (λ o. ⊥));
-  within = inl refl;
+  within = inl (refl, starts (clock_of history) (λ o. ⊥));
 }
 
 -- a call that ends in one of two ways

@@ -1,9 +1,9 @@
 -- What is kept beside a history, one event later.
-use Rattle.std.proofs.Common.{◌≡◌, ℕ, zero, suc, ◌+◌, ◌<◌, ◌≤◌, List, [], ◌∷◌, ◌++◌, length, Bool, true, false, if◌then◌else◌, refl, sym, ◌∙◌, ap, subst, arith, length-append}
+use Rattle.std.proofs.Common.{◌≡◌, ℕ, zero, suc, ◌+◌, ◌≤◌, List, [], ◌∷◌, ◌++◌, length, Bool, true, false, if◌then◌else◌, refl, sym, ◌∙◌, ap, subst, arith, length-append}
 use Rattle.dd_rig.specs.declared.device.Dev.{Dev}
 use Rattle.dd_rig.specs.declared.device.Dev.TheVariants.{Flash, Disk}
-use Rattle.dd_rig.specs.Device.{Device, overwrite, make_stable}
-use Rattle.dd_rig.specs.World.{World, device_of, on_device}
+use Rattle.dd_rig.specs.Device.{overwrite}
+use Rattle.dd_rig.specs.World.{World, device_of}
 use Rattle.dd_rigmem.specs.declared.event.Event.{Event}
 use Rattle.dd_rigmem.specs.declared.event.Event.TheVariants.{Wrote, Synced, Emitted}
 use Rattle.dd_rigmem.specs.declared.marks.Marks.{Marks}
@@ -79,19 +79,6 @@ module _ (history : History) (shown : Bytes) (marks : Marks) (before capacity : 
         disk_settled = λ unmarked. subst IsSettled (sym (ap (λ (w : World). w.disk) now)) refl;
         room = longer (Synced Disk) (marked (set_mark Disk false marks)) (omega (arith, one, kept.room));
       }
-
-  pub room_to_sync : (dev : Dev) → mark_of dev marks ≡ true → length history.events < before
-  room_to_sync Flash is_marked =
-      let one : counted marks.flash ≡ suc zero = ap counted is_marked in
-      omega (arith, one, kept.room)
-  room_to_sync Disk is_marked =
-      let one : counted marks.disk ≡ suc zero = ap counted is_marked in
-      omega (arith, one, kept.room)
-
-  -- a device that isn't marked is its own stable one
-  pub synced_already : (dev : Dev) → mark_of dev marks ≡ false → on_device dev make_stable (world_of history) ≡ world_of history
-  synced_already Flash unmarked = ap (λ (d : Device). record (world_of history) { flash = d }) (kept.flash_settled unmarked)
-  synced_already Disk unmarked = ap (λ (d : Device). record (world_of history) { disk = d }) (kept.disk_settled unmarked)
 
   -- an emit leaves the devices
   pub kept_emitted : (e : EmitRecord) → length history.events + 1 + marked marks ≤ capacity → IsKept (grown (Emitted e) history) shown marks capacity

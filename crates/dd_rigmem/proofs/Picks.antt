@@ -99,6 +99,11 @@ last_left (Emitted e) world o n left = inr (inl (
   },
 ))
 
+-- the moment of a crash isn't ahead
+pub crash_moment_is_past : (emitting : Bool) (events : List Event) → crash_moment emitting events ≤ length events
+crash_moment_is_past true events = omega arith
+crash_moment_is_past false events = omega arith
+
 -- what is picked is left since the moment of the crash
 pub crash_left : (emitting : Bool) (events : List Event) (world : World) (o : Outcome) (n : ℕ) → MayLeave (say (take n (unfinished_of emitting events)) (after_events events world)) o → LeftSince events world (crash_moment emitting events) o
 crash_left false events world o n left = counts_now events world (length events) o (omega arith) (said_nothing _ o (subst (λ (l : List ℕ). MayLeave (say l (after_events events world)) o) (take_none n) left))

@@ -11,8 +11,12 @@ use Rattle.dd_rigmem.specs.declared.plan.Fate.TheVariants.{Goes, IsLate}
 use Rattle.dd_rigmem.specs.declared.rig_mem.RigMem.{RigMem}
 use Rattle.dd_rigmem.specs.Bytes.{Bytes}
 use Rattle.dd_rigmem.specs.Planned.{Schedule, schedule_of, fate_of, plan_after}
-use Rattle.dd_rigmem.specs.History.{world_of, start_of, unfinished_of}
+use Rattle.dd_rigmem.specs.History.{History, world_of, start_of, unfinished_of}
 use Rattle.dd_rigmem.specs.Effects.{written_by, synced_by, said_by, unfinished_by, cut_by}
+
+-- what a rig in memory began with, and what was done since
+abbrev pub history_of : RigMem → History
+history_of rig = rig.past
 
 -- what a rig in memory tells
 pub record State : Type 0 where
