@@ -139,4 +139,71 @@ mod tests {
         std::fs::remove_file(&rt, "rig_files_test_disk")?;
         Ok(())
     }
+
+    // The null device takes bytes and can't be synced.
+    #[test]
+    fn a_sync_is_of_its_own_device(rt: HostRuntime) -> Result<(), Fail> {
+        let disk = made(&rt, "rig_files_test_synced")?;
+        let null = OpenOptions::new()
+            .read(true)
+            .write(true)
+            .open(&rt, "/dev/null")?;
+        let mut rig = RigFiles::new(null, disk, 0, 4, Vec::new(rt.alloc()));
+        assert_eq!(rt; rig.sync(Dev::Flash), Err(Failed));
+        assert_eq!(rt; rig.sync(Dev::Disk), Ok(()));
+        assert!(rt; rig.counts.flash.failed_writes == 1 && rig.counts.disk.failed_writes == 0);
+        std::fs::remove_file(&rt, "rig_files_test_synced")?;
+        Ok(())
+    }
+
+    // A file that is shorter than it was told to be.
+    #[test]
+    fn a_read_that_ends_early_fails(rt: HostRuntime) -> Result<(), Fail> {
+        let flash = made(&rt, "rig_files_test_short")?;
+        let disk = made(&rt, "rig_files_test_whole")?;
+        let mut rig = RigFiles::new(flash, disk, 8, 4, Vec::new(rt.alloc()));
+        let mut bytes = [9; 4];
+        assert!(rt; rig.size(Dev::Flash) == 8);
+        assert_eq!(rt; rig.read(Dev::Flash, 2, &mut bytes), Err(Failed));
+        std::fs::remove_file(&rt, "rig_files_test_short")?;
+        std::fs::remove_file(&rt, "rig_files_test_whole")?;
+        Ok(())
+    }
+
+    // A writer that takes a byte at a time.
+    #[derive(Drop)]
+    struct ByteByByte {
+        taken: Vec<u8>,
+    }
+
+    impl Write for ByteByByte {
+        fn write(&mut self, buf: &[u8]) -> std::io::Result<usize> {
+            match buf.first() {
+                Some(byte) => {
+                    self.taken.push(*byte)?;
+                    Ok(1)
+                }
+                None => Ok(0),
+            }
+        }
+
+        fn flush(&mut self) -> std::io::Result<()> {
+            Ok(())
+        }
+    }
+
+    #[test]
+    fn an_emit_goes_out_whole(rt: HostRuntime) -> Result<(), Fail> {
+        let flash = made(&rt, "rig_files_test_first")?;
+        let disk = made(&rt, "rig_files_test_second")?;
+        let out = ByteByByte {
+            taken: Vec::new(rt.alloc()),
+        };
+        let mut rig = RigFiles::new(flash, disk, 4, 4, out);
+        assert_eq!(rt; rig.emit(b"abc"), Ok(()));
+        assert_eq!(rt; rig.out.taken.as_slice(), b"abc".as_slice());
+        std::fs::remove_file(&rt, "rig_files_test_first")?;
+        std::fs::remove_file(&rt, "rig_files_test_second")?;
+        Ok(())
+    }
 }

@@ -1,0 +1,5 @@
+pub mod Making
+pub mod Marks
+pub mod Numbers
+pub mod Ranges
+pub mod Room
