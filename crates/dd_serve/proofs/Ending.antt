@@ -378,3 +378,11 @@ module _ (print : List ℕ → Fp) (plan : Plan) (script : List ℕ) (old : Worl
       early_asks stop.Script between h = asks_weaker sizes [] before between h
       early_asks stop.Length between h = asks_weaker sizes [] before between h
       early_asks stop.Memory between h = h
+
+-- a run that stops has a status of its own
+pub stop_large : (why : Stop) → 4 ≤ status_of why
+stop_large stop.Flash = omega arith
+stop_large stop.Disk = omega arith
+stop_large stop.Script = omega arith
+stop_large stop.Length = omega arith
+stop_large stop.Memory = omega arith

@@ -1,18 +1,13 @@
 -- What a run promises, by what was asked.
-use Rattle.std.proofs.Common.{◌≡◌, ◌≢◌, inl, inr, ⊎_elim, ℕ, List, Some, None, subst, ap, arith}
-use Rattle.std.specs.Prelude.{Option, slice_index}
+use Rattle.std.proofs.Common.{◌≡◌, ◌≢◌, inl, inr, ℕ, List, None, subst, arith}
+use Rattle.std.specs.Prelude.{Option}
 use Rattle.dd_block.specs.declared.print.Fp.{Fp}
 use Rattle.dd_block.specs.declared.geometry.Geometry.{Geometry}
 use Rattle.dd_rig.specs.declared.device.Dev.{Dev}
 use Rattle.dd_rig.specs.declared.device.Dev.TheVariants.{Flash}
-use Rattle.dd_rig.specs.declared.tallies.Calls.{Calls}
 use Rattle.dd_rig.specs.declared.tallies.Counts.{Counts}
 use Rattle.dd_rig.specs.Counts.{IsQuiet, IsStill, Rose}
-use Rattle.dd_rig.specs.Clock.{Clock, Elapses}
-use Rattle.dd_rig.specs.Device.{Device}
 use Rattle.dd_rig.specs.World.{World, shown}
-use Rattle.dd_rig.proofs.Moments.{widens}
-use Rattle.dd_recover.specs.Formatting.{IsOwn}
 use Rattle.dd_script.specs.declared.reply.Refusal.{Refusal}
 use Rattle.dd_script.specs.declared.reply.Refusal.TheVariants.{Words}
 use Rattle.dd_script.specs.Text.{refusal_text}
@@ -21,10 +16,8 @@ use Rattle.dd_serve.specs.declared.words.Asked.TheVariants.{Replay, Format}
 use Rattle.dd_serve.specs.Calls.{looked}
 use Rattle.dd_serve.specs.Formats.{IsFormatStatus}
 use Rattle.dd_serve.specs.Refusing.{Refuses, StopsAtDevice, refusal_for}
-use Rattle.dd_serve.specs.Run.{RefusesWords, IsStatus, IsCaused, IsRefused, Does, Shows, Leaves, EndsWell, Takes}
+use Rattle.dd_serve.specs.Run.{RefusesWords, IsStatus, IsCaused, IsRefused, Shows, EndsWell}
 use Rattle.dd_serve.specs.Saying.{IsIdle, SaysAlone}
-use Rattle.dd_serve.specs.Scratch.{front_ranges}
-use Rattle.dd_serve.specs.Saying.{front_of}
 use Rattle.dd_serve.specs.Words.{AsksFor}
 use Rattle.dd_serve.proofs.Quiet.{quiet_status, quiet_format, replay_failed}
 
@@ -75,42 +68,6 @@ ends_well print (Replay plan) status tells script_tells Says size script before 
 ends_well print (Format geo) status tells script_tells Says size script before after old new m n t caused refused shows quiet first =
     let three = not_refused (refusal_for (Format geo) size (shown Flash old)) status before after old new first (refused.first t) in
     quiet_format geo Says status before after caused.is_status three caused.emit caused.device quiet
-
--- what is said when a run is refused for its sizes
-pub small_status : (asked : Asked) (status : ℕ) → status ≡ 3 → IsStatus asked status
-small_status (Replay plan) status e = (omega (arith, e), λ two. omega (arith, e, two))
-small_status (Format geo) status e = inr (inl e)
-
-pub idle_does : (asked : Asked) (before after : Counts) → IsIdle before after → Does asked before after
-idle_does (Replay plan) before after idle = ap (λ (k : Calls). k.writes) idle.1
-idle_does (Format geo) before after idle = record {
-  flash_reads = omega (arith, ap (λ (k : Calls). k.reads) idle.0);
-  flash_writes = omega (arith, ap (λ (k : Calls). k.writes) idle.0);
-  flash_written = omega (arith, ap (λ (k : Calls). k.written) idle.0);
-  disk_reads = ap (λ (k : Calls). k.reads) idle.1;
-  disk_writes = omega (arith, ap (λ (k : Calls). k.writes) idle.1);
-  disk_written = ap (λ (k : Calls). k.written) idle.1;
-}
-
-pub small_shows : (print : List ℕ → Fp) (asked : Asked) (status : ℕ) (tells : Type 0) (size : Dev → ℕ) (script : List ℕ) (before after : Counts) (old new : World) (why : Refusal)
-    → refusal_for asked size (shown Flash old) ≡ Some why → status ≡ 3 → new.flash ≡ old.flash → new.disk ≡ old.disk → Shows print asked status tells size script before after old new
-small_shows print (Replay plan) status tells size script before after old new why first three flash disk = (
-  record { disk = disk; front = ap (λ (d : Device). front_of (record old { flash = d })) flash; stable = ap (λ (d : Device). d.stable) flash; ranges = ap (λ (d : Device). front_ranges (record old { flash = d })) flash },
-  λ t none. absurd (cc),
-)
-small_shows print (Format geo) status tells size script before after old new why first three flash disk = (
-  record { exact = λ e. absurd (omega (arith, three, e)); cut = λ e. absurd (omega (arith, three, e)); done = λ ends. absurd (⊎_elim (λ (e : status ≡ 0). omega (arith, three, e)) (λ (e : status ≡ 6). omega (arith, three, e)) ends) },
-  (λ place out. ap (λ (d : Device). slice_index d.shown place) flash),
-  ap (λ (d : Device). d.shown) disk,
-)
-
-pub small_leaves : (asked : Asked) (old : World) (first last : Clock) → Elapses first last (λ o. IsOwn old o.flash o.disk) → Leaves asked old first last
-small_leaves (Replay plan) old first last line = widens line (λ o own. record { front = λ place k out. own.0.same_outside place out; disk = own.1 })
-small_leaves (Format geo) old first last line = λ print. widens line (λ o own. inl own)
-
-pub small_takes : (asked : Asked) (status : ℕ) (untaken : Type 0) → untaken → Takes asked status untaken
-small_takes (Replay plan) status untaken h = λ e. h
-small_takes (Format geo) status untaken h = h
 
 -- the causes of a format
 pub format_caused : (geo : Geometry) (status : ℕ) (Says : List ℕ → Type 0) (before after : Counts) (m n : ℕ) → IsFormatStatus status → (status ≡ 6 → Rose before.failed_emits after.failed_emits)

@@ -11,7 +11,7 @@ ghost use Rattle.dd_serve.specs.declared.halt.Halt.TheVariants.{Output};
 ghost use Rattle.dd_serve.specs.Calls.{AsksFor};
 ghost use Rattle.dd_serve.specs.Causes.{Caused, Halts, stop_of};
 ghost use Rattle.dd_serve.specs.Scratch.{Fits, IsSound, OnlyFlash, Scratched, IsWithin, KeepsDevices, scratch_state, scratch_sizes};
-ghost use Rattle.dd_script.specs.Reading.{left, fuel, quits};
+ghost use Rattle.dd_script.specs.Reading.{left, fuel, quits, IsTakenTo};
 ghost use Rattle.dd_serve.specs.Saying.{IsIdle};
 ghost use Rattle.dd_serve.specs.Answering.{AnswersLine, WritesAnswer, WritesLine, HaltsByFlash, CutsLine, AnsweredAll, AnsweredUpTo};
 
@@ -51,6 +51,7 @@ pub fn serve<F: Fingerprint, R: Rig, S: Source>(
         (commands_of scratch.old.blocks (left reader.old (S.rest source.old))) faulted (R.world rig.old).said (R.world rig.new).said (R.counts rig.old) (R.counts rig.new)) }
     ensures some { R.tells → S.tells → IfErr result (λ halt. AnsweredUpTo (F.printed print.now) (scratch_sizes scratch.old) (scratch_state scratch.old (R.world rig.old))
         (commands_of scratch.old.blocks (left reader.old (S.rest source.old))) halt (R.world rig.old).said (R.world rig.new).said (R.counts rig.old) (R.counts rig.new)) }
+    ensures taken { S.tells → OnOk result (IsTakenTo scratch.old.blocks (left reader.old (S.rest source.old)) (S.rest source.new)) }
     ensures bounded { S.tells → OnOk result (EndsWithin (fuel reader.old) scratch.old.blocks (left reader.old (S.rest source.old))) }
     ensures others { R.tells → Scratched (R.world rig.old) (R.world rig.new) }
     ensures time { R.tells → Elapses (R.clock rig.old) (R.clock rig.new) (KeepsDevices (R.world rig.old)) }

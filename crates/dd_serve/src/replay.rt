@@ -3,6 +3,7 @@ ghost use Rattle.std.specs.Prelude.{◌≡◌, ◌≢◌, ◌⊎◌, ◌==◌, �
 ghost use Rattle.dd_rig.specs.Counts.{Frame, Rose, NeverFalls, count_read};
 ghost use Rattle.dd_rig.specs.declared.device.Dev.TheVariants.{Flash as FlashDevice, Disk as DiskDevice};
 ghost use Rattle.dd_rig.specs.World.{shown};
+ghost use Rattle.dd_script.specs.Reading.{IsTakenTo};
 ghost use Rattle.dd_script.specs.Text.{stop_text};
 ghost use Rattle.dd_script.specs.declared.reply.Stop.TheVariants.{Memory};
 ghost use Rattle.dd_serve.specs.declared.words.Asked.TheVariants.{Replay};
@@ -14,7 +15,7 @@ ghost use Rattle.dd_serve.specs.Scratch.{Scratched, KeepsDevices};
 ghost use Rattle.dd_serve.specs.Saying.{IsIdle, OnlyLooks, SaysAlone};
 ghost use Rattle.dd_serve.specs.Refusing.{Refuses, StopsAtDevice, small_for, refusal_for};
 ghost use Rattle.dd_serve.specs.Answering.{AnsweredAll, AnsweredUpTo};
-ghost use Rattle.dd_serve.specs.Replays.{Replays, status_of, IsBounded, first_scratch, replay_sizes, replay_start, replay_commands};
+ghost use Rattle.dd_serve.specs.Replays.{Replays, status_of, IsBounded, first_scratch, replay_sizes, replay_start, replay_commands, replay_blocks};
 
 use crate::answering::serve;
 use crate::halt::Halt;
@@ -48,6 +49,7 @@ pub fn run_replay<F: Fingerprint, R: Rig, S: Source>(
     ensures memory { R.tells → result ≡ 4 → SaysAlone (stop_text Memory) (R.counts rig.old) (R.counts rig.new) (R.world rig.old) (R.world rig.new) }
     ensures served { R.tells → S.tells → refusal_for (Replay plan) (R.device_size rig.old) (shown FlashDevice (R.world rig.old)) ≡ None
         → Replays (F.printed print.now) plan result (S.rest source.old) (R.world rig.old) (R.world rig.new) (looked (R.counts rig.old)) (R.counts rig.new) }
+    ensures taken { R.tells → S.tells → result ≤ 1 → IsTakenTo (replay_blocks plan (R.world rig.old)) (S.rest source.old) (S.rest source.new) }
     ensures untaken { (result ≡ 3) ⊎ (result ≡ 4) → source.new ≡ source.old }
     ensures others { R.tells → Scratched (R.world rig.old) (R.world rig.new) }
     ensures time { R.tells → Elapses (R.clock rig.old) (R.clock rig.new) (KeepsDevices (R.world rig.old)) }
@@ -95,6 +97,7 @@ fn serve_plan<F: Fingerprint, R: Rig, S: Source>(
     ensures others { R.tells → Scratched (R.world rig.old) (R.world rig.new) }
     ensures time { R.tells → Elapses (R.clock rig.old) (R.clock rig.new) (KeepsDevices (R.world rig.old)) }
     ensures untouched { (R.counts rig.new).disk.writes ≡ (R.counts rig.old).disk.writes }
+    ensures taken { R.tells → S.tells → result ≤ 1 → IsTakenTo (replay_blocks plan (R.world rig.old)) (S.rest source.old) (S.rest source.new) }
     ensures untaken { result ≡ 4 → source.new ≡ source.old }
     ensures idle { result ≡ 4 → IsIdle (R.counts rig.old) (R.counts rig.new) }
     ensures later { NeverFalls (R.counts rig.old) (R.counts rig.new) }
@@ -153,6 +156,7 @@ fn serve_script<F: Fingerprint, R: Rig, S: Source>(
         (replay_commands plan (R.world rig.old) (S.rest source.old)) halt (R.world rig.old).said (R.world rig.new).said (R.counts rig.old) (R.counts rig.new))) }
     ensures bounded { R.tells → S.tells → IfOk result (λ served. OnOk served (IsBounded plan (R.world rig.old) (S.rest source.old))) }
     ensures early { OnErr result (R.tells → R.world rig.new ≡ R.world rig.old) }
+    ensures taken { R.tells → S.tells → IfOk result (λ served. OnOk served (IsTakenTo (replay_blocks plan (R.world rig.old)) (S.rest source.old) (S.rest source.new))) }
     ensures untaken { OnErr result (source.new ≡ source.old) }
     ensures early_counts { OnErr result (R.counts rig.new ≡ R.counts rig.old) }
     ensures others { R.tells → Scratched (R.world rig.old) (R.world rig.new) }

@@ -3,11 +3,13 @@ use Rattle.std.specs.Prelude.{Option, ◌||◌}
 use Rattle.dd_model.specs.State.{Sizes, State}
 use Rattle.dd_script.specs.Command.{Command}
 use Rattle.dd_script.specs.Line.{told}
+use Rattle.dd_script.specs.declared.line.Line.{Line}
+use Rattle.dd_serve.proofs.Taken.{goes_on, taken_to}
 use Rattle.dd_script.specs.Script.{commands_of, EndsWithin}
 use Rattle.dd_serve.specs.declared.halt.Halt.{Halt}
 use Rattle.dd_serve.specs.declared.halt.Halt.TheVariants.{Stopped}
 use Rattle.dd_serve.specs.Scratch.{scratch_state, scratch_sizes}
-use Rattle.dd_script.specs.Reading.{left, fuel, fronted, quits}
+use Rattle.dd_script.specs.Reading.{left, fuel, fronted, quits, Passes}
 use Rattle.dd_serve.specs.Answering.{AnswersLine, CutsLine, AnsweredUpTo}
 use Rattle.dd_rig.proofs.Falling.{falls_trans}
 use Rattle.dd_serve.proofs.Moments.{scratched_both, line_moment}
@@ -22,6 +24,18 @@ same_blocks m n o before after e h = subst (λ (k : ℕ). commands_of k before �
 same_bound : (m n : ℕ) (fuel_before fuel_after : ℕ) (before after : List ℕ) → m ≡ n → (EndsWithin fuel_before m before → EndsWithin fuel_after m after) × (EndsWithin fuel_after m after → EndsWithin fuel_before m before)
     → (EndsWithin fuel_before n before → EndsWithin fuel_after n after) × (EndsWithin fuel_after n after → EndsWithin fuel_before n before)
 same_bound m n fuel_before fuel_after before after e h = subst (λ (k : ℕ). (EndsWithin fuel_before k before → EndsWithin fuel_after k after) × (EndsWithin fuel_after k after → EndsWithin fuel_before k before)) e h
+
+same_passes : (m n : ℕ) (line : Line) (before after : List ℕ) → m ≡ n → Passes m line before after → Passes n line before after
+same_passes m n line before after e h = subst (λ (k : ℕ). Passes k line before after) e h
+
+pub returns-then-is_quit-clause-taken : goal.returns-then-is_quit-clause-taken
+returns-then-is_quit-clause-taken g c = λ u.
+    let rest = g.S.Source.rest in
+    let blocks = c.args.scratch.now.blocks in
+    let now : List ℕ = left c.lines.reader (rest c.lines.source) in
+    let next : List ℕ = left c.next.new.self (rest c.next.new.source) in
+    taken_to blocks c.in-Ok.said (left c.args.reader.now (rest c.args.source.now)) now (rest c.next.new.source) c.next.new.self (c.lines.invariant.passes u)
+    (same_passes c.lines.scratch.blocks blocks c.in-Ok.said now next (ap (λ (z : Sizes). z.blocks) c.lines.invariant.sizes) (c.in-Ok.ensures.passes u)) c.in-Ok.ensures.piece
 
 pub returns-in-Err-clause-some : goal.returns-in-Err-clause-some
 returns-in-Err-clause-some g c = λ t u.
@@ -127,6 +141,7 @@ lines-preserved g c =
       count = omega (arith, burns, i.count, c.in_ok-failed.ensures.sizes.1);
       bounded = λ u within. i.bounded u ((bound u).1 within);
       bounds = λ u within. (bound u).0 (i.bounds u within);
+      passes = λ u. goes_on blocks c.in-Ok.said text text_now text_next (i.passes u) (same_passes c.lines.scratch.blocks blocks c.in-Ok.said text_now text_next same (c.in-Ok.ensures.passes u)) other;
       untouched = c.answer_line.ensures.untouched ∙ i.untouched;
       later = falls_trans _ _ _ i.later c.answer_line.ensures.frame.0;
       later_source = omega (arith, i.later_source, c.next.ensures.later);

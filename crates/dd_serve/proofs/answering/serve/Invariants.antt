@@ -5,6 +5,7 @@ use Rattle.dd_script.specs.Script.{commands_of, EndsWithin}
 use Rattle.dd_serve.specs.Scratch.{Fits, IsSound, Scratched, KeepsDevices, scratch_state, scratch_sizes}
 use Rattle.dd_script.specs.Reading.{left, fuel}
 use Rattle.dd_serve.proofs.Going.{Going}
+use Rattle.dd_serve.proofs.Taken.{GoesThrough}
 use Rattle.dd_serve.proofs.answering.serve.Given as goal
 
 -- whole lines were said so far, and they answer the commands up to those that are left
@@ -29,6 +30,7 @@ invariant-lines g l =
       count : l.scratch.count + fuel l.reader + 1 < 2 ^ 64;
       bounded : g.S.Source.tells → EndsWithin (fuel l.reader) blocks now → EndsWithin (fuel l.fn.reader) blocks start;
       bounds : g.S.Source.tells → EndsWithin (fuel l.fn.reader) blocks start → EndsWithin (fuel l.reader) blocks now;
+      passes : g.S.Source.tells → GoesThrough blocks start now;
       untouched : (counts l.rig).disk.writes ≡ (counts l.fn.rig).disk.writes;
       later : NeverFalls (counts l.fn.rig) (counts l.rig);
       later_source : g.S.Source.failures l.fn.source ≤ g.S.Source.failures l.source;

@@ -15,7 +15,7 @@ use Rattle.dd_serve.proofs.Costs.{asks_early}
 use Rattle.dd_serve.proofs.Moments.{end_moment}
 use Rattle.dd_serve.proofs.Going.{commands_some}
 use Rattle.dd_serve.proofs.Starts.{halts_by}
-use Rattle.dd_serve.proofs.Ending.{status_for, serves_all, serves_cut, stops_alone, stops_served, stops_early}
+use Rattle.dd_serve.proofs.Ending.{status_for, serves_all, serves_cut, stops_alone, stops_served, stops_early, stop_large}
 use Rattle.dd_serve.proofs.replay.serve_plan.Goals as goal
 
 byte_is : (b : Bool) → status_for b ≡ bool_byte b
@@ -93,3 +93,6 @@ returns-in-Stopped-clause-served g c = λ t u.
 
 pub returns-in-Stopped-clause-time : goal.returns-in-Stopped-clause-time
 returns-in-Stopped-clause-time g c = λ t. end_moment _ _ _ _ (g.R.Rig.world c.serve_script.new.rig) (c.serve_script.ensures.time t) (c.serve_script.ensures.others t) (c.end-in-Stopped.ensures.time t)
+
+pub returns-in-Stopped-clause-taken : goal.returns-in-Stopped-clause-taken
+returns-in-Stopped-clause-taken g c = λ t u small. absurd (omega (arith, small, stop_large c.in-Stopped.why, c.end-in-Stopped.ensures.status, c.status_of.ensures))

@@ -8,7 +8,7 @@ use Rattle.dd_serve.specs.declared.scratch.Scratch.{Scratch}
 use Rattle.dd_serve.specs.declared.halt.Halt.{Halt}
 use Rattle.dd_serve.specs.Causes.{Halts}
 use Rattle.dd_serve.specs.Scratch.{Fits, IsSound, scratch_state, scratch_sizes}
-use Rattle.dd_script.specs.Reading.{Held, left, fuel}
+use Rattle.dd_script.specs.Reading.{Held, left, fuel, IsTakenTo}
 use Rattle.dd_serve.specs.Replays.{first_scratch, IsBounded}
 use Rattle.dd_serve.specs.Answering.{AnsweredAll, AnsweredUpTo}
 use Rattle.dd_serve.proofs.Starts.{first_some, first_fits, first_sound, halts_by}
@@ -79,3 +79,13 @@ returns-clause-halt g c =
     (λ (halt : Halt). Halts P halt (counts c.args.rig.now) (counts c.serve.new.rig) (failures c.args.source.now) (failures c.serve.new.source))
     (λ (halt : Halt). Halts Q halt (counts c.args.rig.now) (counts c.serve.new.rig) (failures c.args.source.now) (failures c.serve.new.source))
     (λ halt s. halts_by P Q w halt _ _ _ _ s) c.serve.ensures.halt
+
+pub returns-clause-taken : goal.returns-clause-taken
+returns-clause-taken g c = λ t u.
+    let old : World = g.R.Rig.world c.args.rig.now in
+    let rest : List ℕ = g.S.Source.rest c.args.source.now in
+    let rest_after : List ℕ = g.S.Source.rest c.serve.new.source in
+    let size = (g.met.R.Rig.shows_image c.args.rig.now Disk t).same_length ∙ g.met.R.Rig.has_size c.args.rig.now Disk t in
+    let scratch : c.in_ok-scratch.scratch ≡ first_scratch c.args.plan (length (shown Disk old)) = c.in_ok-scratch.ensures ∙ ap (first_scratch c.args.plan) (sym size) in
+    subst (λ (h : Held). OnOk c.serve.result (IsTakenTo (first_scratch c.args.plan (length (shown Disk old))).blocks (left h rest) rest_after)) c.in_ok-reader.ensures
+    (subst (λ (k : Scratch). OnOk c.serve.result (IsTakenTo k.blocks (left c.in_ok-reader.reader rest) rest_after)) scratch (c.serve.ensures.taken u))
