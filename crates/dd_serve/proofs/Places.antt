@@ -13,7 +13,10 @@ use Rattle.dd_model.specs.Step.{read_kind}
 use Rattle.dd_record.specs.declared.row.BRow.{BRow}
 use Rattle.dd_record.specs.declared.row.ARow.{ARow}
 use Rattle.dd_serve.specs.declared.scratch.Scratch.{Scratch}
-use Rattle.dd_serve.specs.Rows.{Listed, has_slot, linked_block}
+use Rattle.dd_record.specs.declared.row.Link.{Link}
+use Rattle.dd_record.specs.declared.row.Link.TheVariants.{Lost, Slot, Zero}
+use Rattle.dd_record.specs.Table.{has_slot}
+use Rattle.dd_serve.specs.Rows.{Listed, linked_block}
 use Rattle.dd_serve.specs.Scratch.{Located, Sound, LinkHolds, Confirms, scratch_block, scratch_at, block_of, scratch_state, IsSound}
 use Rattle.dd_serve.proofs.Listed.{number_other, listed_all, clash, has_head, has_weaker}
 use Rattle.dd_serve.proofs.Refine.{of, same_block}
@@ -21,11 +24,11 @@ use Rattle.dd_serve.proofs.Locates.{linked_known, known_here, known_nowhere, arr
 use Rattle.dd_serve.proofs.Slots.{part_before, part_behind, part_here, slot_before}
 
 -- the kind of a read of an address that isn't linked
-kind_unlinked : (scratch : Scratch) (world : World) (address : ℕ) (block : List ℕ) (known : Bool) → linked_block address scratch.lists.a ≡ None → block ≡ content (scratch_state scratch world).array address
+kind_unlinked : (printed : List ℕ → Fp) (scratch : Scratch) (world : World) (address : ℕ) (block : List ℕ) (known : Bool) → IsSound printed scratch world → linked_block address scratch.lists.a ≡ None → block ≡ content (scratch_state scratch world).array address
     → is_known block (scratch_state scratch world).blocks ≡ known → (if known then Join else Miss) ≡ read_kind (scratch_state scratch world) address
-kind_unlinked scratch world address block known none is k =
+kind_unlinked printed scratch world address block known sound none is k =
     let blocks : List (List ℕ) = (scratch_state scratch world).blocks in
-    sym (ap (λ b. if b then Hit else if is_known (content (scratch_state scratch world).array address) blocks then Join else Miss) (linked_known address scratch.lists.a ∙ ap is_some none)
+    sym (ap (λ b. if b then Hit else if is_known (content (scratch_state scratch world).array address) blocks then Join else Miss) (linked_known printed (scratch_block scratch.block world) (scratch_state scratch world).array scratch.lists.b address scratch.lists.a sound.links ∙ ap is_some none)
     ∙ ap (λ (b : List ℕ). if is_known b blocks then Join else Miss) (sym is) ∙ ap (λ b. if b then Join else Miss) k)
 
 pub joins : (printed : List ℕ → Fp) (scratch : Scratch) (world : World) (address : ℕ) (block : List ℕ) (row : BRow) → IsSound printed scratch world → address < scratch.blocks → linked_block address scratch.lists.a ≡ None
@@ -34,7 +37,7 @@ joins printed scratch world address block row sound fits none is found =
     let c : ℕ → List ℕ = scratch_block scratch.block world in
     let same : block ≡ content (scratch_state scratch world).array address = is ∙ sym (array_is scratch world address fits) in
     record {
-      kind_is = kind_unlinked scratch world address block true none same (known_here c block row.slot scratch.lists.b found.2 found.1);
+      kind_is = kind_unlinked printed scratch world address block true sound none same (known_here c block row.slot scratch.lists.b found.2 found.1);
       block_is = same;
       in_slot = found.1;
       print_is = found.0;
@@ -59,10 +62,11 @@ print_slots : (printed : List ℕ → Fp) (c d : ℕ → List ℕ) (b : List BRo
 print_slots printed c d [] h all = tt
 print_slots printed c d (x ∷ b) h all = (all.0 ∙ ap printed (sym (h x.slot (has_head x b))), print_slots printed c d b (λ s m. h s (has_weaker s x b m)) all.1)
 
-link_slot : (printed : List ℕ → Fp) (c d : ℕ → List ℕ) (array : List (List ℕ)) (b : List BRow) → ((s : ℕ) → has_slot s b ≡ true → d s ≡ c s) → (address : ℕ) (fp : Fp) (link : Option ℕ)
+link_slot : (printed : List ℕ → Fp) (c d : ℕ → List ℕ) (array : List (List ℕ)) (b : List BRow) → ((s : ℕ) → has_slot s b ≡ true → d s ≡ c s) → (address : ℕ) (fp : Fp) (link : Link)
     → LinkHolds printed c array b address fp link → LinkHolds printed d array b address fp link
-link_slot printed c d array b h address fp None k = tt
-link_slot printed c d array b h address fp (Some s) k = (k.0, h s k.0 ∙ k.1, k.2 ∙ ap printed (sym (h s k.0)))
+link_slot printed c d array b h address fp Lost k = tt
+link_slot printed c d array b h address fp (Slot s) k = (k.0, h s k.0 ∙ k.1, k.2 ∙ ap printed (sym (h s k.0)))
+link_slot printed c d array b h address fp Zero k = absurd k
 
 link_slots : (printed : List ℕ → Fp) (c d : ℕ → List ℕ) (array : List (List ℕ)) (b : List BRow) → ((s : ℕ) → has_slot s b ≡ true → d s ≡ c s) → (a : List ARow)
     → AllByRecursion (λ row. LinkHolds printed c array b row.address row.fp row.link) a → AllByRecursion (λ row. LinkHolds printed d array b row.address row.fp row.link) a
@@ -113,7 +117,7 @@ misses printed scratch old new address block sound fits none is found size room 
     let kept = λ (s : ℕ) (m : has_slot s scratch.lists.b ≡ true). slot_kept old scratch.spare scratch.block block s size (differs s m) in
     let same : block ≡ content (scratch_state scratch old).array address = is ∙ sym (array_is scratch old address fits) in
     let located : Located printed scratch old after address block Miss (record { slot = scratch.spare; fp = printed block }) = record {
-      kind_is = kind_unlinked scratch old address block false none same (known_nowhere c block scratch.lists.b nowhere);
+      kind_is = kind_unlinked printed scratch old address block false sound none same (known_nowhere c block scratch.lists.b nowhere);
       block_is = same;
       in_slot = slot_written old scratch.spare scratch.block block size room;
       print_is = refl;

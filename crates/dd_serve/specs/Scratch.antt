@@ -15,7 +15,10 @@ use Rattle.dd_model.specs.Step.{read_kind}
 use Rattle.dd_record.specs.declared.row.BRow.{BRow}
 use Rattle.dd_serve.specs.declared.scratch.Scratch.{Scratch}
 use Rattle.dd_serve.specs.Saying.{front_of}
-use Rattle.dd_serve.specs.Rows.{Listed, has_slot, touched, cut_block}
+use Rattle.dd_record.specs.declared.row.Link.{Link}
+use Rattle.dd_record.specs.declared.row.Link.TheVariants.{Lost, Slot, Zero}
+use Rattle.dd_record.specs.Table.{has_slot}
+use Rattle.dd_serve.specs.Rows.{Listed, touched, cut_block}
 
 abbrev pub scratch_at : ℕ → ℕ → ℕ
 scratch_at block slot = 64 + slot * block
@@ -40,10 +43,11 @@ scratch_state scratch world = record {
   count = scratch.count;
 }
 
--- a link leads to a listed slot, which has the content of the address
-abbrev pub LinkHolds : (List ℕ → Fp) → (ℕ → List ℕ) → List (List ℕ) → List BRow → ℕ → Fp → Option ℕ → Type 0
-LinkHolds printed in_slot array b address fp None = ⊤
-LinkHolds printed in_slot array b address fp (Some slot) = (has_slot slot b ≡ true) × (in_slot slot ≡ content array address) × (fp ≡ printed (in_slot slot))
+-- a link leads to a listed slot, which has the content of the address; zeros are a block like any other
+abbrev pub LinkHolds : (List ℕ → Fp) → (ℕ → List ℕ) → List (List ℕ) → List BRow → ℕ → Fp → Link → Type 0
+LinkHolds printed in_slot array b address fp Lost = ⊤
+LinkHolds printed in_slot array b address fp Zero = ⊥
+LinkHolds printed in_slot array b address fp (Slot slot) = (has_slot slot b ≡ true) × (in_slot slot ≡ content array address) × (fp ≡ printed (in_slot slot))
 
 -- rows and the blocks in their slots
 pub record Sound (printed : List ℕ → Fp) (in_slot : ℕ → List ℕ) (array : List (List ℕ)) (lists : Listed) (spare : ℕ) : Type 0 where
