@@ -1,7 +1,7 @@
 -- What the lists answer, on the state that their rows show: whether a block is listed, and what falls off.
-use Rattle.std.proofs.Common.{◌≡◌, ◌≢◌, ⊎_elim, ℕ, zero, suc, ◌<◌, ◌≤◌, ◌==◌, Bool, true, false, cond, not, List, [], ◌∷◌, map, length, refl, ap, sym, ◌∙◌, subst, Option, Some, None}
-use Rattle.std.specs.Prelude.{filter, is_some, option_map, slice_get, ◌||◌}
-use Rattle.std.specs.List.{AllByRecursion, list_any}
+use Rattle.std.proofs.Common.{◌≡◌, ◌≢◌, ⊎_elim, ℕ, zero, suc, ◌<◌, ◌≤◌, ◌==◌, Bool, true, false, cond, not, List, [], ◌∷◌, map, length, refl, ap, sym, ◌∙◌, Option, Some, None}
+use Rattle.std.specs.Prelude.{is_some, option_map, slice_get, ◌||◌}
+use Rattle.std.specs.List.{AllByRecursion}
 use Rattle.std.specs.Str.{bytes_eq}
 use Rattle.std.proofs.lemmas.Bool.{eqb-true}
 use Rattle.std.proofs.lemmas.Slice.Eq.{bytes_eq-Decides}
@@ -10,7 +10,7 @@ use Rattle.dd_slots.specs.Slots.{SlotsView, block_in}
 use Rattle.dd_record.specs.declared.row.ARow.{ARow}
 use Rattle.dd_record.specs.declared.row.BRow.{BRow}
 use Rattle.dd_record.specs.Table.{Table, has_slot, b_row}
-use Rattle.dd_record.specs.Replay.{Touch, b_moved, cut_block}
+use Rattle.dd_record.specs.Replay.{b_moved, cut_block}
 use Rattle.dd_model.specs.declared.done.Done.{Done}
 use Rattle.dd_model.specs.State.{Sizes, State, is_zero_block, is_known}
 use Rattle.dd_model.specs.Reference.{Answer, Tells, dropped, fallen}
