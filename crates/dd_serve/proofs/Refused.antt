@@ -12,7 +12,8 @@ use Rattle.dd_rig.specs.World.{World, Outcome}
 use Rattle.dd_rig.proofs.Moments.{widens, goes_on}
 use Rattle.dd_recover.specs.declared.fault.FormatFault.{FormatFault}
 use Rattle.dd_recover.specs.declared.fault.FormatFault.TheVariants as fault
-use Rattle.dd_recover.specs.Formatting.{TellsSmall, TellsFault, IsUnusedOrFormatted, IsOwn}
+use Rattle.dd_recover.specs.Formatting.{TellsSmall, TellsFault, IsUnusedOrFormatted}
+use Rattle.dd_rig.specs.World.{IsOwn}
 use Rattle.dd_script.specs.declared.reply.Refusal.{Refusal}
 use Rattle.dd_script.specs.declared.reply.Refusal.TheVariants as refusal
 use Rattle.dd_script.specs.Text.{ended, reply_text}

@@ -5,8 +5,8 @@ use Rattle.dd_block.specs.declared.geometry.Geometry.{Geometry}
 use Rattle.dd_rig.specs.declared.tallies.Counts.{Counts}
 use Rattle.dd_rig.specs.Clock.{Clock, Elapses}
 use Rattle.dd_rig.specs.Device.{IsImage}
-use Rattle.dd_rig.specs.World.{World}
-use Rattle.dd_recover.specs.Formatting.{IsFormatted, IsUnusedOrFormatted, IsOwn}
+use Rattle.dd_rig.specs.World.{World, IsOwn}
+use Rattle.dd_recover.specs.Formatting.{IsFormatted, IsUnusedOrFormatted}
 use Rattle.dd_recover.specs.declared.fault.FormatFault.{FormatFault}
 use Rattle.dd_recover.specs.declared.fault.FormatFault.TheVariants as fault
 use Rattle.dd_script.specs.declared.reply.Reply.{Reply}
@@ -37,15 +37,6 @@ fault_status fault.DiskWrite = 7
 -- how a format may end
 abbrev pub IsFormatStatus : ℕ → Type 0
 IsFormatStatus status = (status ≡ 0) ⊎ (status ≡ 3) ⊎ (status ≡ 6) ⊎ (status ≡ 7)
-
--- a format makes at most one read of the flash, seven writes and syncs of it with 99 bytes together, and one sync of the disk
-pub record CallsOfFormat (before after : Counts) : Type 0 where
-  pub flash_reads : after.flash.reads ≤ before.flash.reads + 1
-  pub flash_writes : after.flash.writes ≤ before.flash.writes + 7
-  pub flash_written : after.flash.written ≤ before.flash.written + 99
-  pub disk_reads : after.disk.reads ≡ before.disk.reads
-  pub disk_writes : after.disk.writes ≤ before.disk.writes + 1
-  pub disk_written : after.disk.written ≡ before.disk.written
 
 -- whatever a crash leaves now stands for the disk's array, empty lists and no references
 abbrev pub AreFormatted : Geometry → (old new : World) → Type 0

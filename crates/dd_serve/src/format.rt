@@ -1,16 +1,15 @@
 // Formatting the flash.
 ghost use Rattle.std.specs.Prelude.{◌≡◌, ◌⊎◌, ◌+◌, ◌++◌, None, ℕ};
 ghost use Rattle.dd_rig.specs.Clock.{Elapses};
-ghost use Rattle.dd_rig.specs.Counts.{Rose};
+ghost use Rattle.dd_rig.specs.Counts.{Rose, Makes, up_to, nothing};
 ghost use Rattle.dd_rig.specs.declared.device.Dev.TheVariants.{Flash as FlashDevice, Disk as DiskDevice};
-ghost use Rattle.dd_rig.specs.World.{World, shown};
+ghost use Rattle.dd_rig.specs.World.{IsOwn, World, shown};
 ghost use Rattle.dd_rig.specs.Leaves.{SameOutside};
 ghost use Rattle.dd_journal.specs.Sitting.{regions_size};
-ghost use Rattle.dd_recover.specs.Formatting.{IsOwn};
 ghost use Rattle.dd_script.specs.declared.reply.Reply.TheVariants as reply;
 ghost use Rattle.dd_script.specs.Text.{ended, reply_text};
-ghost use Rattle.dd_serve.specs.Saying.{IsIdle, OnlyLooks, SaysAlone};
-ghost use Rattle.dd_serve.specs.Formats.{CallsOfFormat, Formats, FormatLeaves, IsFormatStatus, reply_to, fault_status};
+ghost use Rattle.dd_serve.specs.Saying.{IsIdle, SaysAlone};
+ghost use Rattle.dd_serve.specs.Formats.{Formats, FormatLeaves, IsFormatStatus, reply_to, fault_status};
 ghost use Rattle.dd_serve.specs.Refusing.{Refuses, StopsAtDevice, small_for, refusal_for};
 ghost use Rattle.dd_serve.specs.declared.words.Asked.TheVariants.{Format};
 
@@ -28,8 +27,8 @@ pub fn run_format<R: Rig>(geo: Geometry, rig: &mut R) -> u8
     ensures refused { R.tells → Refuses (refusal_for (Format geo) (R.device_size rig.old) (shown FlashDevice (R.world rig.old))) result (R.counts rig.old) (R.counts rig.new) (R.world rig.old) (R.world rig.new) }
     ensures emit { result ≡ 6 → Rose (R.counts rig.old).failed_emits (R.counts rig.new).failed_emits }
     ensures device { result ≡ 7 → StopsAtDevice (Format geo) (λ line. R.tells → SaysAlone line (R.counts rig.old) (R.counts rig.new) (R.world rig.old) (R.world rig.new)) (R.counts rig.old) (R.counts rig.new) }
-    ensures looks { result ≡ 3 → OnlyLooks (R.counts rig.old) (R.counts rig.new) }
-    ensures calls { CallsOfFormat (R.counts rig.old) (R.counts rig.new) }
+    ensures looks { result ≡ 3 → Makes (up_to 1 0 0) nothing (R.counts rig.old) (R.counts rig.new) }
+    ensures calls { Makes (up_to 1 7 99) (up_to 0 1 0) (R.counts rig.old) (R.counts rig.new) }
     ensures formatted { R.tells → Formats geo result (R.counts rig.old) (R.counts rig.new) (R.world rig.old) (R.world rig.new) }
     ensures crash { R.tells → FormatLeaves geo (R.world rig.old) (R.clock rig.old) (R.clock rig.new) }
     ensures outside { R.tells → SameOutside 0 (64 + regions_size geo) (shown FlashDevice (R.world rig.old)) (shown FlashDevice (R.world rig.new)) }

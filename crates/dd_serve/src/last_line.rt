@@ -2,7 +2,7 @@
 ghost use Rattle.std.specs.Prelude.{◌≡◌, ◌⊎◌, ℕ};
 ghost use Rattle.dd_rig.specs.Clock.{Elapses};
 ghost use Rattle.dd_rig.specs.Counts.{NeverFalls};
-ghost use Rattle.dd_recover.specs.Formatting.{IsOwn};
+ghost use Rattle.dd_rig.specs.World.{IsOwn};
 ghost use Rattle.dd_script.specs.Text.{HasNoEnd, reply_text};
 ghost use Rattle.dd_serve.specs.Saying.{IsIdle, SaysAlone};
 

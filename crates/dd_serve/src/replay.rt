@@ -1,6 +1,6 @@
 // Serving the reads of a script, with the flash as scratch.
 ghost use Rattle.std.specs.Prelude.{◌≡◌, ◌≢◌, ◌⊎◌, ◌==◌, ◌≤◌, None, ℕ, slice_index, IfOk, OnOk, OnErr, IfErr};
-ghost use Rattle.dd_rig.specs.Counts.{Frame, Rose, NeverFalls, count_read};
+ghost use Rattle.dd_rig.specs.Counts.{Frame, Rose, NeverFalls, count_read, Makes, up_to, nothing};
 ghost use Rattle.dd_rig.specs.declared.device.Dev.TheVariants.{Flash as FlashDevice, Disk as DiskDevice};
 ghost use Rattle.dd_rig.specs.World.{shown};
 ghost use Rattle.dd_script.specs.Reading.{IsTakenTo};
@@ -12,7 +12,7 @@ ghost use Rattle.dd_serve.specs.Words.{IsPlan};
 ghost use Rattle.dd_rig.specs.Clock.{AddsNone, Elapses};
 ghost use Rattle.dd_serve.specs.Calls.{looked};
 ghost use Rattle.dd_serve.specs.Scratch.{Scratched, KeepsDevices};
-ghost use Rattle.dd_serve.specs.Saying.{IsIdle, OnlyLooks, SaysAlone};
+ghost use Rattle.dd_serve.specs.Saying.{IsIdle, SaysAlone};
 ghost use Rattle.dd_serve.specs.Refusing.{Refuses, StopsAtDevice, small_for, refusal_for};
 ghost use Rattle.dd_serve.specs.Answering.{AnsweredAll, AnsweredUpTo};
 ghost use Rattle.dd_serve.specs.Replays.{Replays, status_of, IsBounded, first_scratch, replay_sizes, replay_start, replay_commands, replay_blocks};
@@ -54,7 +54,7 @@ pub fn run_replay<F: Fingerprint, R: Rig, S: Source>(
     ensures others { R.tells → Scratched (R.world rig.old) (R.world rig.new) }
     ensures time { R.tells → Elapses (R.clock rig.old) (R.clock rig.new) (KeepsDevices (R.world rig.old)) }
     ensures untouched { (R.counts rig.new).disk.writes ≡ (R.counts rig.old).disk.writes }
-    ensures looks { (result ≡ 3) ⊎ (result ≡ 4) → OnlyLooks (R.counts rig.old) (R.counts rig.new) }
+    ensures looks { (result ≡ 3) ⊎ (result ≡ 4) → Makes (up_to 1 0 0) nothing (R.counts rig.old) (R.counts rig.new) }
 {
     match is_in_use(rig) {
         Err(_) => end(rig, Reply::Stopped(Stop::Flash), 7),

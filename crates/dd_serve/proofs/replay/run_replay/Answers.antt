@@ -17,7 +17,7 @@ use Rattle.dd_serve.specs.Saying.{SaysAlone}
 use Rattle.dd_serve.proofs.Going.{commands_some}
 use Rattle.dd_serve.proofs.Ending.{stops_alone, stops_early}
 use Rattle.dd_serve.specs.Calls.{looked}
-use Rattle.dd_serve.proofs.Looking.{only_looks, looked_falls, asks_looked}
+use Rattle.dd_serve.proofs.Looking.{one_look, looked_falls, asks_looked}
 use Rattle.dd_serve.proofs.Refused.{says_sooner, refuses_fault, refuses_large}
 use Rattle.dd_serve.proofs.replay.run_replay.Goals as goal
 
@@ -47,7 +47,7 @@ returns-in-Err-clause-device g c = λ seven.
     inr (
       rose,
       (λ t. says_sooner (stop_text stop.Flash) before between after old middle new c.in-Err.ensures.frame.0.emits (ap (λ (w : World). w.said) (c.in-Err.ensures.world t)) (c.end.ensures.said t)),
-      only_looks c.is_in_use.result before between after c.is_in_use.ensures.counts c.end.ensures.idle,
+      one_look c.is_in_use.result before between after c.is_in_use.ensures.counts c.end.ensures.idle,
     )
 
 pub returns-in-Err-clause-served : goal.returns-in-Err-clause-served
