@@ -7,7 +7,6 @@ use Rattle.dd_rig.specs.declared.tallies.Counts.{Counts}
 use Rattle.dd_rig.specs.Counts.{IsStill, Rose, plus}
 use Rattle.dd_rig.specs.World.{World, shown}
 use Rattle.dd_model.specs.State.{Sizes, State, array_of, fresh}
-use Rattle.dd_script.specs.declared.reply.Stop.{Stop}
 use Rattle.dd_script.specs.declared.reply.Stop.TheVariants as stop
 use Rattle.dd_script.specs.Command.{Command}
 use Rattle.dd_script.specs.Script.{lines_of, commands_of, EndsWithin}
@@ -63,14 +62,6 @@ said_since old new = drop (length old.said) new.said
 -- the whole lines of it
 abbrev pub lines_since : World → World → List (List ℕ)
 lines_since old new = (lines_of (said_since old new)).whole
-
--- the status of a run that stops
-abbrev pub status_of : Stop → ℕ
-status_of stop.Memory = 4
-status_of stop.Script = 5
-status_of stop.Flash = 7
-status_of stop.Disk = 7
-status_of stop.Length = 8
 
 -- the line with which a run ends that stops with this status
 abbrev pub last_line : ℕ → Option (List ℕ)

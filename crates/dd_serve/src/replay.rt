@@ -15,16 +15,16 @@ ghost use Rattle.dd_serve.specs.Scratch.{Scratched, KeepsDevices};
 ghost use Rattle.dd_serve.specs.Saying.{IsIdle, SaysAlone};
 ghost use Rattle.dd_serve.specs.Refusing.{Refuses, StopsAtDevice, small_for, refusal_for};
 ghost use Rattle.dd_serve.specs.Answering.{AnsweredAll, AnsweredUpTo};
-ghost use Rattle.dd_serve.specs.Replays.{Replays, status_of, IsBounded, first_scratch, replay_sizes, replay_start, replay_commands, replay_blocks};
+ghost use Rattle.dd_serve.specs.Replays.{Replays, IsBounded, first_scratch, replay_sizes, replay_start, replay_commands, replay_blocks};
 
 use crate::answering::serve;
+use crate::ending::{Ending, finish};
 use crate::halt::Halt;
-use crate::last_line::end;
 use crate::scratch::Scratch;
 use crate::words::Plan;
 use dd_block::Fingerprint;
 use dd_rig::{Dev, Failed, Rig, Source};
-use dd_script::{REPLY_ROOM, Reader, Refusal, Reply, Stop};
+use dd_script::{REPLY_ROOM, Reader, Refusal, Stop};
 use std::alloc::{AllocError, Global};
 
 /// The greatest number of blocks.
@@ -57,8 +57,8 @@ pub fn run_replay<F: Fingerprint, R: Rig, S: Source>(
     ensures looks { (result ≡ 3) ⊎ (result ≡ 4) → Makes (up_to 1 0 0) nothing (R.counts rig.old) (R.counts rig.new) }
 {
     match is_in_use(rig) {
-        Err(_) => end(rig, Reply::Stopped(Stop::Flash), 7),
-        Ok(true) => end(rig, Reply::Refused(Refusal::InUse), 3),
+        Err(_) => finish(rig, Ending::Stopped(Stop::Flash)),
+        Ok(true) => finish(rig, Ending::Refused(Refusal::InUse)),
         Ok(false) => serve_plan(alloc, plan, source, rig, print),
     }
 }
@@ -103,26 +103,14 @@ fn serve_plan<F: Fingerprint, R: Rig, S: Source>(
     ensures later { NeverFalls (R.counts rig.old) (R.counts rig.new) }
 {
     let Ok(served) = serve_script(alloc, plan, source, rig, print) else {
-        return end(rig, Reply::Stopped(Stop::Memory), 4);
+        return finish(rig, Ending::Stopped(Stop::Memory));
     };
     match served {
-        Ok(faulted) => u8::from(faulted),
+        Ok(faulted) => finish(rig, Ending::Served { faulted }),
         Err(halt) => match halt {
-            Halt::Output => 6,
-            Halt::Stopped(why) => end(rig, Reply::Stopped(why), status_of(why)),
+            Halt::Output => finish(rig, Ending::Unheard),
+            Halt::Stopped(why) => finish(rig, Ending::Stopped(why)),
         },
-    }
-}
-
-// The status of a run that stops.
-fn status_of(why: Stop) -> u8
-    ensures { result ≡ status_of why }
-{
-    match why {
-        Stop::Memory => 4,
-        Stop::Script => 5,
-        Stop::Flash | Stop::Disk => 7,
-        Stop::Length => 8,
     }
 }
 
