@@ -15,7 +15,7 @@ ghost use Rattle.dd_serve.specs.Scratch.{Scratched, KeepsDevices};
 ghost use Rattle.dd_serve.specs.Saying.{IsIdle, SaysAlone};
 ghost use Rattle.dd_serve.specs.Refusing.{Refuses, StopsAtDevice, small_for, refusal_for};
 ghost use Rattle.dd_serve.specs.Answering.{AnsweredAll, AnsweredUpTo};
-ghost use Rattle.dd_serve.specs.Replays.{Replays, IsBounded, first_scratch, replay_sizes, replay_start, replay_commands, replay_blocks};
+ghost use Rattle.dd_serve.specs.Replays.{Replays, IsBounded, first_scratch, blocks_of, plan_sizes, replay_start, replay_commands};
 
 use crate::answering::serve;
 use crate::ending::{Ending, finish};
@@ -48,8 +48,8 @@ pub fn run_replay<F: Fingerprint, R: Rig, S: Source>(
     ensures device { result ≡ 7 → StopsAtDevice (Replay plan) (λ line. R.tells → SaysAlone line (R.counts rig.old) (R.counts rig.new) (R.world rig.old) (R.world rig.new)) (R.counts rig.old) (R.counts rig.new) }
     ensures memory { R.tells → result ≡ 4 → SaysAlone (stop_text Memory) (R.counts rig.old) (R.counts rig.new) (R.world rig.old) (R.world rig.new) }
     ensures served { R.tells → S.tells → refusal_for (Replay plan) (R.device_size rig.old) (shown FlashDevice (R.world rig.old)) ≡ None
-        → Replays (F.printed print.now) plan result (S.rest source.old) (R.world rig.old) (R.world rig.new) (looked (R.counts rig.old)) (R.counts rig.new) }
-    ensures taken { R.tells → S.tells → result ≤ 1 → IsTakenTo (replay_blocks plan (R.world rig.old)) (S.rest source.old) (S.rest source.new) }
+        → Replays (F.printed print.now) plan (R.device_size rig.old DiskDevice) result (S.rest source.old) (R.world rig.old) (R.world rig.new) (looked (R.counts rig.old)) (R.counts rig.new) }
+    ensures taken { S.tells → result ≤ 1 → IsTakenTo (blocks_of plan (R.device_size rig.old DiskDevice)) (S.rest source.old) (S.rest source.new) }
     ensures untaken { (result ≡ 3) ⊎ (result ≡ 4) → source.new ≡ source.old }
     ensures others { R.tells → Scratched (R.world rig.old) (R.world rig.new) }
     ensures time { R.tells → Elapses (R.clock rig.old) (R.clock rig.new) (KeepsDevices (R.world rig.old)) }
@@ -93,11 +93,11 @@ fn serve_plan<F: Fingerprint, R: Rig, S: Source>(
     ensures emit { result ≡ 6 → Rose (R.counts rig.old).failed_emits (R.counts rig.new).failed_emits }
     ensures device { result ≡ 7 → Rose (R.counts rig.old).flash.failed_writes (R.counts rig.new).flash.failed_writes }
     ensures memory { R.tells → result ≡ 4 → SaysAlone (stop_text Memory) (R.counts rig.old) (R.counts rig.new) (R.world rig.old) (R.world rig.new) }
-    ensures served { R.tells → S.tells → Replays (F.printed print.now) plan result (S.rest source.old) (R.world rig.old) (R.world rig.new) (R.counts rig.old) (R.counts rig.new) }
+    ensures served { R.tells → S.tells → Replays (F.printed print.now) plan (R.device_size rig.old DiskDevice) result (S.rest source.old) (R.world rig.old) (R.world rig.new) (R.counts rig.old) (R.counts rig.new) }
     ensures others { R.tells → Scratched (R.world rig.old) (R.world rig.new) }
     ensures time { R.tells → Elapses (R.clock rig.old) (R.clock rig.new) (KeepsDevices (R.world rig.old)) }
     ensures untouched { (R.counts rig.new).disk.writes ≡ (R.counts rig.old).disk.writes }
-    ensures taken { R.tells → S.tells → result ≤ 1 → IsTakenTo (replay_blocks plan (R.world rig.old)) (S.rest source.old) (S.rest source.new) }
+    ensures taken { S.tells → result ≤ 1 → IsTakenTo (blocks_of plan (R.device_size rig.old DiskDevice)) (S.rest source.old) (S.rest source.new) }
     ensures untaken { result ≡ 4 → source.new ≡ source.old }
     ensures idle { result ≡ 4 → IsIdle (R.counts rig.old) (R.counts rig.new) }
     ensures later { NeverFalls (R.counts rig.old) (R.counts rig.new) }
@@ -138,20 +138,20 @@ fn serve_script<F: Fingerprint, R: Rig, S: Source>(
 ) -> Result<Result<bool, Halt>, AllocError>
     requires plan { IsPlan plan }
     requires large { small_for (Replay plan) (R.device_size rig.old) ≡ None }
-    ensures all { R.tells → S.tells → IfOk result (λ served. IfOk served (λ faulted. AnsweredAll (F.printed print.now) (replay_sizes plan (R.world rig.old)) (replay_start plan (R.world rig.old))
-        (replay_commands plan (R.world rig.old) (S.rest source.old)) faulted (R.world rig.old).said (R.world rig.new).said (R.counts rig.old) (R.counts rig.new))) }
-    ensures some { R.tells → S.tells → IfOk result (λ served. IfErr served (λ halt. AnsweredUpTo (F.printed print.now) (replay_sizes plan (R.world rig.old)) (replay_start plan (R.world rig.old))
-        (replay_commands plan (R.world rig.old) (S.rest source.old)) halt (R.world rig.old).said (R.world rig.new).said (R.counts rig.old) (R.counts rig.new))) }
-    ensures bounded { R.tells → S.tells → IfOk result (λ served. OnOk served (IsBounded plan (R.world rig.old) (S.rest source.old))) }
+    ensures all { R.tells → S.tells → IfOk result (λ served. IfOk served (λ faulted. AnsweredAll (F.printed print.now) (plan_sizes plan (R.device_size rig.old DiskDevice)) (replay_start plan (R.device_size rig.old DiskDevice) (R.world rig.old))
+        (replay_commands plan (R.device_size rig.old DiskDevice) (S.rest source.old)) faulted (R.world rig.old).said (R.world rig.new).said (R.counts rig.old) (R.counts rig.new))) }
+    ensures some { R.tells → S.tells → IfOk result (λ served. IfErr served (λ halt. AnsweredUpTo (F.printed print.now) (plan_sizes plan (R.device_size rig.old DiskDevice)) (replay_start plan (R.device_size rig.old DiskDevice) (R.world rig.old))
+        (replay_commands plan (R.device_size rig.old DiskDevice) (S.rest source.old)) halt (R.world rig.old).said (R.world rig.new).said (R.counts rig.old) (R.counts rig.new))) }
+    ensures bounded { S.tells → IfOk result (λ served. OnOk served (IsBounded plan (R.device_size rig.old DiskDevice) (S.rest source.old))) }
     ensures early { OnErr result (R.tells → R.world rig.new ≡ R.world rig.old) }
-    ensures taken { R.tells → S.tells → IfOk result (λ served. OnOk served (IsTakenTo (replay_blocks plan (R.world rig.old)) (S.rest source.old) (S.rest source.new))) }
+    ensures taken { S.tells → IfOk result (λ served. OnOk served (IsTakenTo (blocks_of plan (R.device_size rig.old DiskDevice)) (S.rest source.old) (S.rest source.new))) }
     ensures untaken { OnErr result (source.new ≡ source.old) }
     ensures early_counts { OnErr result (R.counts rig.new ≡ R.counts rig.old) }
     ensures others { R.tells → Scratched (R.world rig.old) (R.world rig.new) }
     ensures time { R.tells → Elapses (R.clock rig.old) (R.clock rig.new) (KeepsDevices (R.world rig.old)) }
     ensures untouched { (R.counts rig.new).disk.writes ≡ (R.counts rig.old).disk.writes }
     ensures later { NeverFalls (R.counts rig.old) (R.counts rig.new) }
-    ensures halt { IfOk result (λ served. IfErr served (λ halt. Halts (R.tells → S.tells → IsBounded plan (R.world rig.old) (S.rest source.old) → ⊥) halt
+    ensures halt { IfOk result (λ served. IfErr served (λ halt. Halts (S.tells → IsBounded plan (R.device_size rig.old DiskDevice) (S.rest source.old) → ⊥) halt
         (R.counts rig.old) (R.counts rig.new) (S.failures source.old) (S.failures source.new))) }
 {
     let size = plan.block as usize;

@@ -1,6 +1,7 @@
 use Rattle.std.proofs.Common.{◌≡◌, ℕ, List, Bool, true, inl, inr, ap, sym, ◌∙◌, subst, refl, None, Some, arith, ◌==◌, slice_index}
 use Rattle.std.specs.Option.{option_or}
-use Rattle.dd_rig.specs.declared.device.Dev.TheVariants.{Flash}
+use Rattle.dd_rig.specs.declared.device.Dev.{Dev}
+use Rattle.dd_rig.specs.declared.device.Dev.TheVariants.{Flash, Disk}
 use Rattle.dd_rig.specs.declared.tallies.Calls.{Calls}
 use Rattle.dd_rig.specs.declared.tallies.Counts.{Counts}
 use Rattle.dd_rig.specs.Counts.{Rose}
@@ -12,7 +13,7 @@ use Rattle.std.specs.Prelude.{if◌then◌else◌}
 use Rattle.dd_script.specs.Text.{stop_text, refusal_text}
 use Rattle.dd_serve.specs.declared.words.Asked.TheVariants.{Replay}
 use Rattle.dd_serve.specs.Refusing.{Refuses, small_for, in_use}
-use Rattle.dd_serve.specs.Replays.{Replays, replay_blocks, replay_sizes}
+use Rattle.dd_serve.specs.Replays.{Replays, blocks_of, plan_sizes}
 use Rattle.dd_serve.specs.Saying.{SaysAlone}
 use Rattle.dd_serve.proofs.Going.{commands_some}
 use Rattle.dd_serve.proofs.Finishing.{stops_alone, stops_early}
@@ -61,11 +62,11 @@ returns-in-Err-clause-served g c = λ t u first.
     let script : List ℕ = g.S.Source.rest c.args.source.now in
     let one = c.is_in_use.ensures.counts in
     let later = looked_falls (g.R.Rig.counts c.args.rig.now) between c.in-Err.ensures.frame.0 in
-    let asks = asks_looked (replay_sizes c.args.plan old) c.is_in_use.result (g.R.Rig.counts c.args.rig.now) between one in
+    let asks = asks_looked (plan_sizes c.args.plan (g.R.Rig.device_size c.args.rig.now Disk)) c.is_in_use.result (g.R.Rig.counts c.args.rig.now) between one in
     let said : SaysAlone (stop_text stop.Flash) between after old new = subst (λ (w : World). SaysAlone (stop_text stop.Flash) between after w new) (c.in-Err.ensures.world t) (c.finish.ensures.said t) in
-    subst (λ (n : ℕ). Replays print c.args.plan n script old new before after) (sym c.finish.ensures.status)
-    (stops_alone print c.args.plan script old before stop.Flash old new between after later c.finish.ensures.later c.finish.ensures.idle
-    (stops_early print c.args.plan script old before stop.Flash between later asks refl (λ e. omega (arith, e)) (commands_some (replay_blocks c.args.plan old) script)) said)
+    subst (λ (n : ℕ). Replays print c.args.plan (g.R.Rig.device_size c.args.rig.now Disk) n script old new before after) (sym c.finish.ensures.status)
+    (stops_alone print c.args.plan (g.R.Rig.device_size c.args.rig.now Disk) script old before stop.Flash old new between after later c.finish.ensures.later c.finish.ensures.idle
+    (stops_early print c.args.plan (g.R.Rig.device_size c.args.rig.now Disk) script old before stop.Flash between later asks refl (λ e. omega (arith, e)) (commands_some (blocks_of c.args.plan (g.R.Rig.device_size c.args.rig.now Disk)) script)) said)
 
 pub returns-in-Ok-true-clause-refused : goal.returns-in-Ok-true-clause-refused
 returns-in-Ok-true-clause-refused g c = λ t.
@@ -88,5 +89,6 @@ returns-in-Ok-false-clause-served g c = λ t u first.
     let new : World = g.R.Rig.world c.serve_plan.new.rig in
     let after : Counts = g.R.Rig.counts c.serve_plan.new.rig in
     let script : List ℕ = g.S.Source.rest c.args.source.now in
-    let one = subst (λ (w : World). Replays print c.args.plan c.serve_plan.result script w new (g.R.Rig.counts c.is_in_use.new.rig) after) (c.is_in_use.ensures.world t) (c.serve_plan.ensures.served t u) in
-    subst (λ (k : Counts). Replays print c.args.plan c.serve_plan.result script old new k after) c.in-Ok-false.ensures.counts one
+    let one = subst (λ (w : World). Replays print c.args.plan (g.R.Rig.device_size c.args.rig.now Disk) c.serve_plan.result script w new (g.R.Rig.counts c.is_in_use.new.rig) after) (c.is_in_use.ensures.world t)
+    (subst (λ (size : Dev → ℕ). Replays print c.args.plan (size Disk) c.serve_plan.result script (g.R.Rig.world c.is_in_use.new.rig) new (g.R.Rig.counts c.is_in_use.new.rig) after) c.is_in_use.ensures.frame.1 (c.serve_plan.ensures.served t u)) in
+    subst (λ (k : Counts). Replays print c.args.plan (g.R.Rig.device_size c.args.rig.now Disk) c.serve_plan.result script old new k after) c.in-Ok-false.ensures.counts one
