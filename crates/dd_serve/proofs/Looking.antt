@@ -1,5 +1,5 @@
 -- The look at byte 0 of the flash, before a replay.
-use Rattle.std.proofs.Common.{◌≡◌, ◌∙◌, [], ap, arith, subst, sym}
+use Rattle.std.proofs.Common.{◌≡◌, [], ap, arith, subst, sym}
 use Rattle.std.specs.Prelude.{Result}
 use Rattle.dd_rig.specs.declared.device.Dev.TheVariants as dev
 use Rattle.dd_rig.specs.declared.tallies.Calls.{Calls}

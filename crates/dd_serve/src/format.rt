@@ -9,12 +9,12 @@ ghost use Rattle.dd_journal.specs.Sitting.{regions_size};
 ghost use Rattle.dd_script.specs.declared.reply.Reply.TheVariants as reply;
 ghost use Rattle.dd_script.specs.Text.{ended, reply_text};
 ghost use Rattle.dd_serve.specs.Saying.{IsIdle, SaysAlone};
-ghost use Rattle.dd_serve.specs.Formats.{Formats, FormatLeaves, IsFormatStatus, reply_to, fault_status};
+ghost use Rattle.dd_serve.specs.Formats.{Formats, FormatLeaves, IsFormatStatus, ending_of};
 ghost use Rattle.dd_serve.specs.Refusing.{Refuses, StopsAtDevice, small_for, refusal_for};
 ghost use Rattle.dd_serve.specs.declared.words.Asked.TheVariants.{Format};
 
 use crate::answering::say;
-use crate::last_line::end;
+use crate::ending::{Ending, finish};
 use dd_block::Geometry;
 use dd_recover::{FormatFault, format_flash};
 use dd_rig::Rig;
@@ -36,7 +36,7 @@ pub fn run_format<R: Rig>(geo: Geometry, rig: &mut R) -> u8
 {
     match format_flash(rig, geo) {
         Ok(()) => say_formatted(rig),
-        Err(fault) => end(rig, reply_to(fault), fault_status(fault)),
+        Err(fault) => finish(rig, ending_of(fault)),
     }
 }
 
@@ -53,32 +53,24 @@ fn say_formatted<R: Rig>(rig: &mut R) -> u8
     let mut text = [0u8; REPLY_ROOM];
     let size = write_reply(Reply::Formatted, &mut text);
     match say(rig, &text[..size]) {
-        Ok(()) => 0,
-        Err(_) => 6,
+        Ok(()) => finish(rig, Ending::Served { faulted: false }),
+        Err(_) => finish(rig, Ending::Unheard),
     }
 }
 
-// The last line of a format that failed.
-fn reply_to(fault: FormatFault) -> Reply
-    ensures { result ≡ reply_to fault }
+// How a format ends that failed.
+fn ending_of(fault: FormatFault) -> Ending
+    ensures { result ≡ ending_of fault }
 {
     match fault {
         FormatFault::FlashSmall { need, have } => {
-            Reply::Refused(Refusal::FlashSmall { need, have })
+            Ending::Refused(Refusal::FlashSmall { need, have })
         }
-        FormatFault::DiskSmall { need, have } => Reply::Refused(Refusal::DiskSmall { need, have }),
-        FormatFault::InUse => Reply::Refused(Refusal::InUse),
-        FormatFault::FlashRead | FormatFault::FlashWrite => Reply::Stopped(Stop::Flash),
-        FormatFault::DiskWrite => Reply::Stopped(Stop::Disk),
-    }
-}
-
-// And its status.
-fn fault_status(fault: FormatFault) -> u8
-    ensures { result ≡ fault_status fault }
-{
-    match fault {
-        FormatFault::FlashSmall { .. } | FormatFault::DiskSmall { .. } | FormatFault::InUse => 3,
-        FormatFault::FlashRead | FormatFault::FlashWrite | FormatFault::DiskWrite => 7,
+        FormatFault::DiskSmall { need, have } => {
+            Ending::Refused(Refusal::DiskSmall { need, have })
+        }
+        FormatFault::InUse => Ending::Refused(Refusal::InUse),
+        FormatFault::FlashRead | FormatFault::FlashWrite => Ending::Stopped(Stop::Flash),
+        FormatFault::DiskWrite => Ending::Stopped(Stop::Disk),
     }
 }
