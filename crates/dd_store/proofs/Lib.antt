@@ -1,1 +1,11 @@
+pub mod Agreeing
+pub mod Altering
+pub mod Committing
+pub mod Moments
+pub mod Opening
+pub mod Parts
+pub mod Referring
+pub mod Saving
 pub mod Sole
+pub mod Sure
+pub mod Uses

@@ -70,7 +70,7 @@ state_same s t array addresses blocks count = λ i. record { array = array i; ad
 
 -- over some bytes rows and a count mean one state
 module _ (print : List ℕ → Fp) (geo : Geometry) (flash disk : List ℕ) (table : Table) (count : ℕ) (s t : State) (linked : AllByRecursion IsDirtyLinked table.a) where
-  means_one : Means print geo flash disk table count s → Means print geo flash disk table count t → s ≡ t
+  pub means_one : Means print geo flash disk table count s → Means print geo flash disk table count t → s ≡ t
   means_one m n =
       let held = slot_block geo flash in
       let dirty : (address : ℕ) → address < geo.blocks → is_dirty_at address table.a ≡ true → content s.array address ≡ content t.array address =
@@ -92,7 +92,7 @@ module _ (print : List ℕ → Fp) (geo : Geometry) (flash disk : List ℕ) (tab
       state_same s t (same_array geo disk table s t m.array_length n.array_length m.clean n.clean dirty)
       (m.lists.addresses ∙ sym n.lists.addresses) (m.lists.blocks ∙ sym n.lists.blocks) (m.lists.counted ∙ sym n.lists.counted)
 
-are_linked : (geo : Geometry) (version : ℕ) (rows : List ARow) → AllByRecursion (IsA geo version) rows → AllByRecursion IsDirtyLinked rows
+pub are_linked : (geo : Geometry) (version : ℕ) (rows : List ARow) → AllByRecursion (IsA geo version) rows → AllByRecursion IsDirtyLinked rows
 are_linked geo version [] h = tt
 are_linked geo version (row ∷ rows) h = (h.0.linked, are_linked geo version rows h.1)
 
