@@ -1,6 +1,9 @@
 pub mod Agreeing
 pub mod Altering
 pub mod Committing
+pub mod Laying
+pub mod LayingRow
+pub mod Marking
 pub mod Moments
 pub mod Opening
 pub mod Parts

@@ -33,7 +33,7 @@ held_same held (Slot slot) x y linked holds_x holds_y = sym holds_x ∙ holds_y
 held_same held Zero x y linked holds_x holds_y = absurd holds_x
 
 -- two arrays of one length whose blocks have one length
-length_at : (n : ℕ) (array : List (List ℕ)) (address : ℕ) → AllByRecursion (λ block. length block ≡ n) array → address < length array → length (content array address) ≡ n
+pub length_at : (n : ℕ) (array : List (List ℕ)) (address : ℕ) → AllByRecursion (λ block. length block ≡ n) array → address < length array → length (content array address) ≡ n
 length_at n [] address all below = absurd (omega (arith, below))
 length_at n (block ∷ array) zero all below = all.0
 length_at n (block ∷ array) (suc address) all below = length_at n array address all.1 (omega (arith, below))

@@ -9,7 +9,11 @@
 #![tactic(auto)]
 
 mod commit;
+mod fault;
+mod lay;
 mod place;
 
 pub use commit::commit_rows;
+pub use fault::StoreFault;
+pub use lay::{lay_block, lay_row, sync_laid};
 pub use place::place_block;
