@@ -1,9 +1,12 @@
 pub mod Agreeing
 pub mod Altering
 pub mod Committing
+pub mod Flushing
 pub mod Laying
+pub mod LayingOne
 pub mod LayingRow
 pub mod Marking
+pub mod MarkingAll
 pub mod Moments
 pub mod Opening
 pub mod Parts

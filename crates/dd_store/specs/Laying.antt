@@ -9,7 +9,7 @@ use Rattle.dd_record.specs.declared.rec.Rec.{Rec}
 use Rattle.dd_record.specs.declared.rec.Rec.TheVariants.{Clean}
 use Rattle.dd_record.specs.Table.{a_row, is_dirty_at}
 use Rattle.dd_record.specs.Replay.{cleaned}
-use Rattle.dd_model.specs.Listing.{without, IsLinkBelow}
+use Rattle.dd_model.specs.Listing.{Listing, without, IsLinkBelow}
 use Rattle.dd_store.specs.Keeping.{StoreView}
 
 -- an address whose block may be laid: it is dirty and isn't laid, and nothing is pending
@@ -72,3 +72,10 @@ all_laid rows store = record store { laid = addresses_of rows }
 -- a row whose address is within a geometry, and whose slot, where it has one
 abbrev pub IsPlacedRow : Geometry → ARow → Type 0
 IsPlacedRow geo row = (row.address < geo.blocks) × IsLinkBelow (slot_count geo) row.link
+
+-- lists in which these addresses were made clean, one after the other
+abbrev pub all_marked : List ℕ → Listing → Listing
+all_marked addresses lists = record lists {
+  table = record { b = lists.table.b; a = all_cleaned addresses lists.table.a };
+  dirty = all_without addresses lists.dirty;
+}

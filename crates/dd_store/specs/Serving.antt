@@ -1,18 +1,25 @@
 -- What the calls of a store answer, and what they keep.
-use Rattle.std.specs.Prelude.{◌≡◌, ◌⊎◌, ℕ, ◌+◌, ◌<◌, ◌≤◌, ◌^◌, false, List, length, Result, Ok, Err, IsTrue, ⊤}
+use Rattle.std.specs.Prelude.{◌≡◌, ◌⊎◌, ℕ, ◌+◌, ◌<◌, ◌≤◌, ◌^◌, Bool, false, List, [], length, Result, Ok, Err, IsTrue, ⊤}
 use Rattle.dd_block.specs.declared.print.Fp.{Fp}
+use Rattle.dd_block.specs.declared.geometry.Geometry.{Geometry}
+use Rattle.dd_block.specs.Geometry.{slot_count}
 use Rattle.dd_rig.specs.declared.device.Dev.{Dev}
 use Rattle.dd_rig.specs.declared.device.Dev.TheVariants.{Flash, Disk}
 use Rattle.dd_rig.specs.declared.tallies.Counts.{Counts}
 use Rattle.dd_rig.specs.Clock.{Clock, Elapses}
 use Rattle.dd_rig.specs.Counts.{Rose}
 use Rattle.dd_rig.specs.World.{World}
+use Rattle.dd_slots.specs.declared.usage.Usage.{Usage}
 use Rattle.dd_layout.specs.Layout.{flash_need, disk_need}
+use Rattle.dd_record.specs.declared.rec.Rec.{Rec}
 use Rattle.dd_model.specs.State.{State}
+use Rattle.dd_model.specs.Listing.{Listing}
+use Rattle.dd_journal.specs.Sitting.{JournalView}
 use Rattle.dd_store.specs.declared.fault.StoreFault.{StoreFault}
 use Rattle.dd_store.specs.declared.fault.StoreFault.TheVariants.{FlashRead, DiskRead, FlashWrite, DiskWrite}
 use Rattle.dd_store.specs.Keeping.{StoreView, Kept}
 use Rattle.dd_store.specs.Committing.{StandForEither, AllStandForEither}
+use Rattle.dd_store.specs.Laying.{laid_store}
 
 -- when a store may lay and mark: it is up, and the devices are large enough
 pub record IsReady (store : StoreView) (size : Dev → ℕ) : Type 0 where
@@ -77,3 +84,43 @@ pub record GrowsLittle (old new : StoreView) : Type 0 where
   pub same_geo : new.journal.geo ≡ old.journal.geo
   pub count : new.count ≤ old.count + 1
   pub epoch : new.journal.epoch + length new.dirty ≤ old.journal.epoch + length old.dirty + 4
+
+-- what a contract sees of a store with fingerprints of this type
+pub record StoreOf (F : Type 0) : Type 0 where
+  pub print : F
+  pub store : StoreView
+
+-- a store of these parts
+abbrev pub store_of : Bool → JournalView → Listing → ℕ → List Rec → List Usage → List ℕ → StoreView
+store_of is_up journal lists count pending uses laid = record {
+  is_up = is_up;
+  journal = journal;
+  table = lists.table;
+  count = count;
+  pending = pending;
+  dirty = lists.dirty;
+  uses = uses;
+  laid = laid;
+}
+
+-- lists as long as a geometry says, over its slots
+pub record HasLimits (geo : Geometry) (lists : Listing) : Type 0 where
+  pub acap : lists.acap ≡ geo.acap
+  pub bcap : lists.bcap ≡ geo.bcap
+  pub slots : lists.slots ≡ slot_count geo
+
+-- nothing is laid
+abbrev pub unlaid : StoreView → StoreView
+unlaid store = record store { laid = [] }
+
+-- a store that goes down
+abbrev pub downed : StoreView → StoreView
+downed store = record store { is_up = false }
+
+-- what a call that lays leaves of the store: laid one more, or laid none, or down
+abbrev pub LaysOn : Result Unit StoreFault → ℕ → (old new : StoreView) → Type 0
+LaysOn (Ok done) address old new = new ≡ laid_store address old
+LaysOn (Err FlashRead) address old new = new ≡ unlaid old
+LaysOn (Err DiskRead) address old new = ⊥
+LaysOn (Err FlashWrite) address old new = ⊥
+LaysOn (Err DiskWrite) address old new = new ≡ downed old

@@ -8,41 +8,42 @@ ghost use Rattle.dd_rig.specs.Leaves.{LeavesShown};
 ghost use Rattle.dd_layout.specs.Layout.{region_at, flash_need};
 ghost use Rattle.dd_model.specs.State.{State};
 ghost use Rattle.dd_journal.specs.Gates.{WritesFlash};
-ghost use Rattle.dd_journal.specs.Regions.{table_of, snapshot_size};
+ghost use Rattle.dd_journal.specs.Regions.{snapshot_size};
 ghost use Rattle.dd_journal.specs.Sitting.{MayCommit, regions_size};
 ghost use Rattle.dd_store.specs.Keeping.{StoreView, IsStore, Kept};
 ghost use Rattle.dd_store.specs.Committing.{StandForEither, AllStandForEither, with_parts, committed_store};
 
 use dd_journal::Journal;
-use dd_record::{Rec, Rows};
+use dd_model::Lists;
+use dd_record::Rec;
 use dd_rig::{Failed, Rig};
 
 /// Commits the rows of a store and its count. A crash within it leaves devices that stand for the
 /// state committed before or for the one held. Behind an Ok that one is committed, and the slots
 /// that waited are free. Behind `Failed` a crash leaves one of the two, and the journal is down.
-pub fn commit_rows<R: Rig, T: Rows>(
+pub fn commit_rows<R: Rig, L: Lists>(
     journal: &mut Journal,
     rig: &mut R,
-    table: &T,
+    lists: &L,
     count: u64,
     pending: &[Rec],
 ) -> Result<(), Failed>
     requires up { IsTrue journal.old.is_up }
     requires epoch { journal.old.epoch < 2 ^ 64 - 1 }
-    requires given { MayCommit journal.old (table_of (T.b_rows table.now) (T.a_rows table.now)) count pending.now }
+    requires given { MayCommit journal.old (L.listing lists.now).table count pending.now }
     requires flash { flash_need journal.old.geo ≤ R.device_size rig.old Flash }
     ensures crash { R.tells → (print : List ℕ → Fp) (store : StoreView) (c s : State)
-        → IsStore (with_parts store journal.old (table_of (T.b_rows table.now) (T.a_rows table.now)) count pending.now)
-        → Kept print (with_parts store journal.old (table_of (T.b_rows table.now) (T.a_rows table.now)) count pending.now) (R.world rig.old) c s
+        → IsStore (with_parts store journal.old (L.listing lists.now).table count pending.now)
+        → Kept print (with_parts store journal.old (L.listing lists.now).table count pending.now) (R.world rig.old) c s
         → Elapses (R.clock rig.old) (R.clock rig.new) (λ o. StandForEither print c s o.flash o.disk) }
     ensures now { R.tells → (print : List ℕ → Fp) (store : StoreView) (c s : State)
-        → IsStore (with_parts store journal.old (table_of (T.b_rows table.now) (T.a_rows table.now)) count pending.now)
-        → Kept print (with_parts store journal.old (table_of (T.b_rows table.now) (T.a_rows table.now)) count pending.now) (R.world rig.old) c s
+        → IsStore (with_parts store journal.old (L.listing lists.now).table count pending.now)
+        → Kept print (with_parts store journal.old (L.listing lists.now).table count pending.now) (R.world rig.old) c s
         → AllStandForEither print c s (R.world rig.new) }
     ensures kept { R.tells → (print : List ℕ → Fp) (store : StoreView) (c s : State)
-        → IsStore (with_parts store journal.old (table_of (T.b_rows table.now) (T.a_rows table.now)) count pending.now)
-        → Kept print (with_parts store journal.old (table_of (T.b_rows table.now) (T.a_rows table.now)) count pending.now) (R.world rig.old) c s
-        → OnOk result (Kept print (committed_store (with_parts store journal.old (table_of (T.b_rows table.now) (T.a_rows table.now)) count pending.now) journal.new) (R.world rig.new) s s) }
+        → IsStore (with_parts store journal.old (L.listing lists.now).table count pending.now)
+        → Kept print (with_parts store journal.old (L.listing lists.now).table count pending.now) (R.world rig.old) c s
+        → OnOk result (Kept print (committed_store (with_parts store journal.old (L.listing lists.now).table count pending.now) journal.new) (R.world rig.new) s s) }
     ensures unsaid { R.tells → Elapses (R.clock rig.old) (R.clock rig.new) (λ o. o.out ≡ (R.world rig.old).said) }
     ensures empty { pending.now ≡ [] → IsOk result × (rig.new ≡ rig.old) × (journal.new ≡ journal.old) }
     ensures ok { OnOk result (IsTrue journal.new.is_up × (journal.new.committed ≡ count)) }
@@ -55,8 +56,8 @@ pub fn commit_rows<R: Rig, T: Rows>(
     ensures calls { 48 * length pending.now + 6 ≤ journal.old.room
         → WritesFlash 4 (48 * length pending.now + 6) (R.counts rig.old) (R.counts rig.new) }
     ensures snapshot_calls { journal.old.room < 48 * length pending.now + 6
-        → WritesFlash 6 (3 + snapshot_size (table_of (T.b_rows table.now) (T.a_rows table.now))) (R.counts rig.old) (R.counts rig.new) }
+        → WritesFlash 6 (3 + snapshot_size (L.listing lists.now).table) (R.counts rig.old) (R.counts rig.new) }
     ensures frame { Frame (R.counts rig.old) (R.counts rig.new) (R.device_size rig.old) (R.device_size rig.new) }
 {
-    journal.commit(rig, table, count, pending)
+    journal.commit(rig, lists, count, pending)
 }

@@ -11,9 +11,12 @@
 mod commit;
 mod fault;
 mod lay;
+mod mark;
 mod place;
+mod store;
 
 pub use commit::commit_rows;
 pub use fault::StoreFault;
 pub use lay::{lay_block, lay_row, sync_laid};
 pub use place::place_block;
+pub use store::Store;
