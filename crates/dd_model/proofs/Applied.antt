@@ -9,7 +9,8 @@ use Rattle.dd_record.specs.declared.rec.Rec.TheVariants.{Hit, Link, Store, Zero,
 use Rattle.dd_record.specs.Table.{Table, a_row, is_dirty_at}
 use Rattle.dd_record.specs.Replay.{Touch, touched, touch_of, after_touch, after_rec, is_clean_cut, is_free_cut, cut_address, cut_block}
 use Rattle.dd_model.specs.declared.done.Cut.{Cut}
-use Rattle.dd_model.specs.Listing.{Listing, IsListing, IsReferrer, refers, may_refer, referred, cut_of, made_clean}
+use Rattle.dd_model.specs.declared.done.Victims.{Victims}
+use Rattle.dd_model.specs.Listing.{Listing, IsListing, IsReferrer, refers, may_refer, referred, cut_of, victims_from, made_clean}
 use Rattle.dd_model.specs.Applying.{is_dirty_out, is_referred, Applied, by_touch, applied, IsApplied, SameLimits}
 use Rattle.dd_model.proofs.Allowed.{cut_dirty}
 
@@ -46,6 +47,15 @@ pub may_is : (lists : Listing) (touch : Touch) → IsListing lists
 may_is lists touch kept =
     ap (λ b. b && is_free_cut touch.address lists.table.a (cut_block lists.bcap touch.block lists.table.b)) (clean_is lists touch (cut_address lists.acap touch lists.table.a) kept refl)
     ∙ ap (λ b. not (is_dirty_out lists.table.a (cut_of touch lists).out) && b) (free_is touch.address lists.table.a (cut_block lists.bcap touch.block lists.table.b))
+
+-- so the answers on what falls off tell it
+pub may_told : (lists : Listing) (touch : Touch) (victims : Victims) (out drop result : Bool) → IsListing lists → victims ≡ victims_from (cut_of touch lists) → out ≡ is_dirty_out lists.table.a victims.out
+    → drop ≡ is_referred touch.address lists.table.a victims.drop → result ≡ (not out && not drop) → result ≡ may_refer touch lists
+may_told lists touch victims out drop result kept next out_is drop_is is =
+    is
+    ∙ ap (λ b. not b && not drop) (out_is ∙ ap (λ (v : Victims). is_dirty_out lists.table.a v.out) next)
+    ∙ ap (λ b. not (is_dirty_out lists.table.a (cut_of touch lists).out) && not b) (drop_is ∙ ap (λ (v : Victims). is_referred touch.address lists.table.a v.drop) next)
+    ∙ sym (may_is lists touch kept)
 
 -- the table after what is applied is the one after replay
 abbrev table_of : Applied → Table

@@ -6,6 +6,7 @@ pub mod Arrays
 mod Behind
 pub mod Carried
 pub mod Cleaned
+pub mod Confirmed
 pub mod CutLinks
 pub mod Dirty
 pub mod DirtyLinks
@@ -35,4 +36,5 @@ mod Together
 pub mod TouchKept
 pub mod Walking
 mod Worked
+mod WorkedRows
 pub mod Zeros

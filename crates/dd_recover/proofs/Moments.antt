@@ -1,9 +1,8 @@
 -- What a crash leaves now, from what a crash since the start leaves.
 use Rattle.std.proofs.Common.{◌⊎◌, inl, inr, ⊎_elim, ◌≤◌, ℕ, List, refl, arith}
 use Rattle.dd_rig.specs.Device.{IsImage}
-use Rattle.dd_rig.specs.World.{World, Outcome, MayLeave}
+use Rattle.dd_rig.specs.World.{World, Outcome, MayLeave, IsOwn}
 use Rattle.dd_rig.specs.Clock.{Clock, Elapses}
-use Rattle.dd_recover.specs.Formatting.{IsOwn}
 
 pub own_or_new : (old new : World) (first last : Clock) (P : (flash disk : List ℕ) → Type 0)
     → Elapses first last (λ o. P o.flash o.disk)

@@ -5,8 +5,6 @@ use Rattle.dd_block.specs.declared.print.Fp.{Fp}
 use Rattle.dd_block.specs.declared.geometry.Geometry.{Geometry}
 use Rattle.dd_rig.specs.declared.device.Dev.{Dev}
 use Rattle.dd_rig.specs.declared.device.Dev.TheVariants.{Flash, Disk}
-use Rattle.dd_rig.specs.declared.tallies.Counts.{Counts}
-use Rattle.dd_rig.specs.Device.{IsImage}
 use Rattle.dd_rig.specs.World.{World, shown}
 use Rattle.dd_block.specs.Bytes.{StandsAt}
 use Rattle.dd_layout.specs.Layout.{region_bytes, flash_need, disk_need}
@@ -60,21 +58,6 @@ IsEarly (Err FlashWrite) = ⊥
 IsEarly (Err DiskWrite) = ⊥
 IsEarly (Err early) = Unit {0}
 
--- no write and no sync was made
-abbrev pub IsUnwritten : Counts → Counts → Type 0
-IsUnwritten before after = (after.flash.writes ≡ before.flash.writes) × (after.flash.written ≡ before.flash.written)
-    × (after.disk.writes ≡ before.disk.writes) × (after.disk.written ≡ before.disk.written)
-
--- so many calls at most: reads of the flash, writes and syncs of it, bytes of these writes, and syncs of the disk
-pub record CallsAtMost (reads writes bytes syncs : ℕ) (before after : Counts) : Type 0 where
-  pub flash_reads : after.flash.reads ≤ before.flash.reads + reads
-  pub flash_writes : after.flash.writes ≤ before.flash.writes + writes
-  pub flash_written : after.flash.written ≤ before.flash.written + bytes
-  pub disk_reads : after.disk.reads ≡ before.disk.reads
-  pub disk_writes : after.disk.writes ≤ before.disk.writes + syncs
-  pub disk_written : after.disk.written ≡ before.disk.written
-  pub emits : after.failed_emits ≡ before.failed_emits
-
 -- the array as a disk has it, with empty lists and no references
 abbrev pub formatted_state : Geometry → List ℕ → State
 formatted_state geo disk = fresh (array_of geo.block geo.blocks disk)
@@ -105,7 +88,3 @@ pub record IsFormatted (print : List ℕ → Fp) (geo : Geometry) (old : World) 
 -- what a crash within a format adds: a flash that isn't in use, or devices that are formatted
 abbrev pub IsUnusedOrFormatted : (List ℕ → Fp) → Geometry → World → (flash disk : List ℕ) → Type 0
 IsUnusedOrFormatted print geo old flash disk = (slice_index flash 0 ≢ 1) ⊎ IsFormatted print geo old flash disk
-
--- a pair of devices as a crash before the format might have left it
-abbrev pub IsOwn : World → (flash disk : List ℕ) → Type 0
-IsOwn old flash disk = IsImage old.flash flash × IsImage old.disk disk

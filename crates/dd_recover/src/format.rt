@@ -4,14 +4,13 @@ ghost use Rattle.dd_block.specs.declared.print.Fp.{Fp};
 ghost use Rattle.dd_block.specs.Geometry.{GivesFault};
 ghost use Rattle.dd_rig.specs.declared.device.Dev.TheVariants.{Flash as FlashDevice, Disk as DiskDevice};
 ghost use Rattle.dd_rig.specs.Device.{IsImage};
-ghost use Rattle.dd_rig.specs.World.{World, shown, WithinWrite};
+ghost use Rattle.dd_rig.specs.World.{IsOwn, World, shown, WithinWrite};
 ghost use Rattle.dd_rig.specs.Clock.{Elapses, AddsNone};
-ghost use Rattle.dd_rig.specs.Counts.{NeverFalls, Rose};
+ghost use Rattle.dd_rig.specs.Counts.{NeverFalls, Rose, Makes, up_to, nothing};
 ghost use Rattle.dd_rig.specs.Leaves.{SameOutside, LeavesShown};
 ghost use Rattle.dd_layout.specs.Layout as layout;
-ghost use Rattle.dd_journal.specs.Gates.{WritesFlash};
 ghost use Rattle.dd_journal.specs.Sitting.{regions_size};
-ghost use Rattle.dd_recover.specs.Formatting.{small_fault, format_fault, TellsSmall, TellsFault, IsSmall, IsEarly, IsUnwritten, CallsAtMost, IsFormatted, IsUnusedOrFormatted, IsOwn, first_text};
+ghost use Rattle.dd_recover.specs.Formatting.{small_fault, format_fault, TellsSmall, TellsFault, IsSmall, IsEarly, IsFormatted, IsUnusedOrFormatted, first_text};
 ghost use Rattle.dd_recover.specs.Writing.{settled, with_regions, formatted_world, WithinFormat, Unsynced};
 
 use crate::FormatFault;
@@ -42,11 +41,12 @@ pub fn format_flash<R: Rig>(rig: &mut R, geo: Geometry) -> Result<(), FormatFaul
     ensures write { result ≡ Err FormatFault.FlashWrite → Rose (R.counts rig.old).flash.failed_writes (R.counts rig.new).flash.failed_writes }
     ensures disk_write { result ≡ Err FormatFault.DiskWrite → Rose (R.counts rig.old).disk.failed_writes (R.counts rig.new).disk.failed_writes }
     ensures sized { IsSmall result → rig.new ≡ rig.old }
-    ensures early { IsEarly result → IsUnwritten (R.counts rig.old) (R.counts rig.new) }
-    ensures unwritten { result ≡ Err FormatFault.DiskWrite → (R.counts rig.new).flash.written ≡ (R.counts rig.old).flash.written }
+    ensures early { IsEarly result → Makes (up_to 1 0 0) nothing (R.counts rig.old) (R.counts rig.new) }
+    ensures order { result ≡ Err FormatFault.DiskWrite → Rose (R.counts rig.old).flash.writes (R.counts rig.new).flash.writes }
+    ensures unwritten { result ≡ Err FormatFault.DiskWrite → Makes (up_to 1 1 0) (up_to 0 1 0) (R.counts rig.old) (R.counts rig.new) }
     ensures kept { R.tells → result ≡ Err FormatFault.DiskWrite → shown FlashDevice (R.world rig.new) ≡ shown FlashDevice (R.world rig.old) }
     ensures idle { R.tells → IsEarly result → R.world rig.new ≡ R.world rig.old }
-    ensures calls { CallsAtMost 1 7 99 1 (R.counts rig.old) (R.counts rig.new) }
+    ensures calls { Makes (up_to 1 7 99) (up_to 0 1 0) (R.counts rig.old) (R.counts rig.new) }
     ensures later { NeverFalls (R.counts rig.old) (R.counts rig.new) }
     ensures size { R.device_size rig.new ≡ R.device_size rig.old }
 
@@ -78,8 +78,8 @@ fn test<R: Rig>(rig: &mut R, geo: Geometry) -> Result<(), FormatFault>
     ensures read { result ≡ Err FormatFault.FlashRead → Rose (R.counts rig.old).flash.failed_reads (R.counts rig.new).flash.failed_reads }
     ensures world { R.tells → R.world rig.new ≡ R.world rig.old }
     ensures time { R.tells → AddsNone (R.clock rig.old) (R.clock rig.new) }
-    ensures unwritten { IsUnwritten (R.counts rig.old) (R.counts rig.new) }
-    ensures calls { CallsAtMost 1 0 0 0 (R.counts rig.old) (R.counts rig.new) }
+    ensures still { (R.counts rig.new).flash.writes ≡ (R.counts rig.old).flash.writes }
+    ensures calls { Makes (up_to 1 0 0) nothing (R.counts rig.old) (R.counts rig.new) }
     ensures later { NeverFalls (R.counts rig.old) (R.counts rig.new) }
     ensures size { R.device_size rig.new ≡ R.device_size rig.old }
 {
@@ -114,16 +114,16 @@ fn test_sizes<R: Rig>(rig: &R, geo: Geometry) -> Result<(), FormatFault>
     Ok(())
 }
 
-// Syncs both devices, the flash first.
+// Syncs both devices, the flash first: where the disk's sync failed, the flash's was made.
 fn settle<R: Rig>(rig: &mut R) -> Result<(), FormatFault>
     ensures ok { R.tells → OnOk result (R.world rig.new ≡ settled (R.world rig.old)) }
     ensures flash { R.tells → shown FlashDevice (R.world rig.new) ≡ shown FlashDevice (R.world rig.old) }
     ensures disk { R.tells → shown DiskDevice (R.world rig.new) ≡ shown DiskDevice (R.world rig.old) }
     ensures said { R.tells → (R.world rig.new).said ≡ (R.world rig.old).said }
     ensures time { R.tells → AddsNone (R.clock rig.old) (R.clock rig.new) }
-    ensures written { (R.counts rig.new).flash.written ≡ (R.counts rig.old).flash.written }
+    ensures order { result ≡ Err FormatFault.DiskWrite → Rose (R.counts rig.old).flash.writes (R.counts rig.new).flash.writes }
     ensures cause { IfErr result (λ fault. Unsynced fault (R.counts rig.old) (R.counts rig.new)) }
-    ensures calls { CallsAtMost 0 1 0 1 (R.counts rig.old) (R.counts rig.new) }
+    ensures calls { Makes (up_to 0 1 0) (up_to 0 1 0) (R.counts rig.old) (R.counts rig.new) }
     ensures later { NeverFalls (R.counts rig.old) (R.counts rig.new) }
     ensures size { R.device_size rig.new ≡ R.device_size rig.old }
 {
@@ -139,7 +139,7 @@ fn write_flash<R: Rig>(rig: &mut R, geo: Geometry) -> Result<(), Failed>
     ensures time { R.tells → Elapses (R.clock rig.old) (R.clock rig.new) (WithinFormat geo (R.world rig.old)) }
     ensures later { NeverFalls (R.counts rig.old) (R.counts rig.new) }
     ensures cause { OnErr result (Rose (R.counts rig.old).flash.failed_writes (R.counts rig.new).flash.failed_writes) }
-    ensures calls { WritesFlash 6 99 (R.counts rig.old) (R.counts rig.new) }
+    ensures calls { Makes (up_to 0 6 99) nothing (R.counts rig.old) (R.counts rig.new) }
     ensures size { R.device_size rig.new ≡ R.device_size rig.old }
 {
     write_regions(rig, geo)?;
@@ -157,7 +157,7 @@ fn write_regions<R: Rig>(rig: &mut R, geo: Geometry) -> Result<(), Failed>
         (WithinWrite FlashDevice (layout.region_at geo 0) (regions_size geo) (R.world rig.old)) }
     ensures later { NeverFalls (R.counts rig.old) (R.counts rig.new) }
     ensures cause { OnErr result (Rose (R.counts rig.old).flash.failed_writes (R.counts rig.new).flash.failed_writes) }
-    ensures calls { WritesFlash 2 35 (R.counts rig.old) (R.counts rig.new) }
+    ensures calls { Makes (up_to 0 2 35) nothing (R.counts rig.old) (R.counts rig.new) }
     ensures size { R.device_size rig.new ≡ R.device_size rig.old }
 {
     rig.write(Dev::Flash, region_at(geo, 1), &[0])?;

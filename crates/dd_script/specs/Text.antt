@@ -16,6 +16,10 @@ use Rattle.dd_script.specs.declared.reply.Refusal.TheVariants as refusal
 use Rattle.dd_script.specs.declared.reply.Reply.{Reply}
 use Rattle.dd_script.specs.declared.reply.Reply.TheVariants as reply
 
+-- bytes that each line of output fits, its LF included
+abbrev pub reply_room : ℕ
+reply_room = 8448
+
 -- no byte of a line is an LF
 abbrev pub HasNoEnd : List ℕ → Type 0
 HasNoEnd [] = Unit {0}

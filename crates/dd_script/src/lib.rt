@@ -1,15 +1,20 @@
 //! The script language: what a line says, and the text of each reply.
 //!
 //! A caller may rely on this: `parse` reads any line, and tells which check it breaks first; each
-//! reply is one line, written as its definition spells it. Nothing here takes memory.
+//! reply is one line, written as its definition spells it; `Reader` cuts a source into the lines of
+//! the script, and takes little behind the line that ends it. Memory is taken by `Reader::new` alone.
 #![tactic(auto)]
 
 mod line;
 mod number;
+mod pieces;
+mod reader;
 mod reply;
 mod text;
 
 pub use line::{BadKind, Line, parse};
-pub use number::number_below;
+pub use number::{number_below, number_of};
+pub use pieces::ScriptFault;
+pub use reader::Reader;
 pub use reply::{Refusal, Reply, Stop};
 pub use text::{REPLY_ROOM, reply_read, write_reply};

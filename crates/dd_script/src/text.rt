@@ -2,7 +2,7 @@
 ghost use Rattle.std.specs.Prelude.{◌≡◌, ◌+◌, ◌*◌, ◌≤◌, ◌++◌, [], length, take, codes, decimal, option_map};
 ghost use Rattle.dd_block.specs.Text.{block_text};
 ghost use Rattle.dd_script.specs.declared.reply.Reply.TheVariants.{Bad, Fault, Stopped};
-ghost use Rattle.dd_script.specs.Text.{HasNoEnd, ended, kind_word, out_text, drop_text, read_text, bye_text, reply_text, refusal_text, small_text};
+ghost use Rattle.dd_script.specs.Text.{reply_room, HasNoEnd, ended, kind_word, out_text, drop_text, read_text, bye_text, reply_text, refusal_text, small_text};
 
 use crate::{BadKind, Refusal, Reply, Stop};
 use dd_block::{Fp, write_block_text};
@@ -17,11 +17,11 @@ pub const REPLY_ROOM: usize = 8_448;
 /// Writes the line that answers a read of a block of at most 4,096 bytes, and answers its length.
 /// The LF is the last byte of it.
 pub fn reply_read(done: Done, block: &[u8], into: &mut [u8]) -> usize
-    requires room { length into.old ≡ 8448 }
+    requires room { length into.old ≡ reply_room }
     requires block { length block.now ≤ 4096 }
     ensures text { take result into.new ≡ ended (read_text done.kind block.now done.cut.out (option_map (λ row. row.fp) done.cut.drop)) }
     ensures line { HasNoEnd (read_text done.kind block.now done.cut.out (option_map (λ row. row.fp) done.cut.drop)) }
-    ensures fits { result ≤ 8448 }
+    ensures fits { result ≤ reply_room }
 {
     let kind = put(into, 0, kind_name(done.kind));
     let space = put(into, kind, b" ");
@@ -33,10 +33,10 @@ pub fn reply_read(done: Done, block: &[u8], into: &mut [u8]) -> usize
 
 /// Writes any other line of output, and answers its length. The LF is the last byte of it.
 pub fn write_reply(reply: Reply, into: &mut [u8]) -> usize
-    requires room { length into.old ≡ 8448 }
+    requires room { length into.old ≡ reply_room }
     ensures text { take result into.new ≡ ended (reply_text reply) }
     ensures line { HasNoEnd (reply_text reply) }
-    ensures fits { result ≤ 8448 }
+    ensures fits { result ≤ reply_room }
 {
     match reply {
         Reply::Bad(kind) => put(into, 0, bad_line(kind)),
@@ -49,10 +49,10 @@ pub fn write_reply(reply: Reply, into: &mut [u8]) -> usize
 }
 
 fn write_bye(count: u64, into: &mut [u8]) -> usize
-    requires { length into.old ≡ 8448 }
+    requires { length into.old ≡ reply_room }
     ensures text { take result into.new ≡ ended (bye_text count) }
     ensures line { HasNoEnd (bye_text count) }
-    ensures fits { result ≤ 8448 }
+    ensures fits { result ≤ reply_room }
 {
     let word = put(into, 0, b"bye ");
     let number = put_number(into, word, count);
@@ -60,10 +60,10 @@ fn write_bye(count: u64, into: &mut [u8]) -> usize
 }
 
 fn write_refusal(why: Refusal, into: &mut [u8]) -> usize
-    requires { length into.old ≡ 8448 }
+    requires { length into.old ≡ reply_room }
     ensures text { take result into.new ≡ ended (refusal_text why) }
     ensures line { HasNoEnd (refusal_text why) }
-    ensures fits { result ≤ 8448 }
+    ensures fits { result ≤ reply_room }
 {
     match why {
         Refusal::Words => put(into, 0, b"refused words\n"),
@@ -74,12 +74,12 @@ fn write_refusal(why: Refusal, into: &mut [u8]) -> usize
 }
 
 fn write_small(device: &[u8], need: u64, have: u64, into: &mut [u8]) -> usize
-    requires room { length into.old ≡ 8448 }
+    requires room { length into.old ≡ reply_room }
     requires device { length device.now ≤ 5 }
     requires line { HasNoEnd device.now }
     ensures text { take result into.new ≡ ended (small_text device.now need have) }
     ensures line { HasNoEnd (small_text device.now need have) }
-    ensures fits { result ≤ 8448 }
+    ensures fits { result ≤ reply_room }
 {
     let word = put(into, 0, b"refused ");
     let name = put(into, word, device);

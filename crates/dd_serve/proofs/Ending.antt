@@ -10,7 +10,6 @@ use Rattle.std.proofs.Math.Seq.{drop-append_seam}
 use Rattle.dd_block.specs.declared.print.Fp.{Fp}
 use Rattle.dd_rig.specs.declared.device.Dev.{Dev}
 use Rattle.dd_rig.specs.declared.device.Dev.TheVariants as dev
-use Rattle.dd_rig.specs.declared.tallies.Calls.{Calls}
 use Rattle.dd_rig.specs.declared.tallies.Counts.{Counts}
 use Rattle.dd_rig.specs.Counts.{Rose, NeverFalls, IsStill, plus}
 use Rattle.dd_rig.specs.World.{World}
@@ -26,11 +25,12 @@ use Rattle.dd_script.proofs.Lines.{lines_of-lines}
 use Rattle.dd_serve.specs.declared.halt.Halt.TheVariants.{Stopped, Output}
 use Rattle.dd_serve.specs.declared.words.Plan.{Plan}
 use Rattle.dd_serve.specs.Causes.{Halts}
-use Rattle.dd_serve.specs.Serving.{Sofar, HasFault, ServedAll, ServedUpTo}
-use Rattle.dd_serve.specs.Asks.{hits_in, loads_in}
+use Rattle.dd_serve.specs.Answering.{Sofar, HasFault, AnsweredAll, AnsweredUpTo}
+use Rattle.dd_serve.specs.Calls.{AsksForLines, loads_in, unfinished}
 use Rattle.dd_serve.specs.Saying.{IsIdle, SaysAlone}
-use Rattle.dd_serve.specs.Run.{Serves, IsLast, IsBounded, last_line, status_of, said_since, lines_since, replay_sizes, replay_start, replay_commands, replay_output}
-use Rattle.dd_serve.proofs.Going.{asking, hits_snoc, faults_snoc, flat_snoc, whole_snoc, no_faults, cut_some, cut_part, front_no_end}
+use Rattle.dd_serve.specs.Replays.{Replays, EndsIn, IsBounded, last_line, status_of, said_since, lines_since, replay_sizes, replay_start, replay_commands, replay_output}
+use Rattle.dd_serve.proofs.Costs.{faults_snoc, asks_stop, asks_still, asks_weaker}
+use Rattle.dd_serve.proofs.Going.{flat_snoc, whole_snoc, no_faults, cut_some, cut_part, front_no_end}
 
 -- what was said since
 since_is : (old new more : List ℕ) → new ≡ old ++ more → drop (length old) new ≡ more
@@ -113,12 +113,16 @@ module _ (print : List ℕ → Fp) (plan : Plan) (script : List ℕ) (old : Worl
   disk_so : (new : World) (end : Counts) (s : SofarAt new end) → plus before.disk.failed_reads (faults_in dev.Disk (lines_since old new)) ≤ end.disk.failed_reads
   disk_so new end s = subst (λ (l : List (List ℕ)). plus before.disk.failed_reads (faults_in dev.Disk l) ≤ end.disk.failed_reads) (sym (ap (λ (l : Lines). l.whole) (lines_are new end s))) s.disk_faults
 
-  hits_so : (new : World) (end : Counts) (s : SofarAt new end) → plus before.flash.reads (hits_in (lines_since old new)) ≤ end.flash.reads
-  hits_so new end s = subst (λ (l : List (List ℕ)). plus before.flash.reads (hits_in l) ≤ end.flash.reads) (sym (ap (λ (l : Lines). l.whole) (lines_are new end s))) s.hits
+  asks_so : (more : ℕ) (new : World) (end : Counts) (s : SofarAt new end) → AsksForLines sizes s.lines more before end → AsksForLines sizes (lines_since old new) more before end
+  asks_so more new end s h = subst (λ (l : List (List ℕ)). AsksForLines sizes l more before end) (sym (ap (λ (l : Lines). l.whole) (lines_are new end s))) h
 
-  loads_so : (faulted : Bool) (new : World) (end : Counts) (s : SofarAt new end) → HasFault faulted s.lines → end.disk.reads ≤ before.disk.reads + asking s.lines → status_for faulted ≡ 0
+  served_more : (faulted : Bool) (lines : List (List ℕ)) (end : Counts) → AsksForLines sizes lines 0 before end → AsksForLines sizes lines (unfinished (status_for faulted)) before end
+  served_more false lines end h = h
+  served_more true lines end h = h
+
+  loads_so : (faulted : Bool) (new : World) (end : Counts) (s : SofarAt new end) → HasFault faulted s.lines → AsksForLines sizes s.lines 0 before end → status_for faulted ≡ 0
       → end.disk.reads ≤ before.disk.reads + loads_in (lines_since old new)
-  loads_so false new end s fault loads zero_is = subst (λ (l : List (List ℕ)). end.disk.reads ≤ before.disk.reads + loads_in l) (sym (ap (λ (l : Lines). l.whole) (lines_are new end s))) (omega (arith, loads, fault.0, fault.1))
+  loads_so false new end s fault loads zero_is = subst (λ (l : List (List ℕ)). end.disk.reads ≤ before.disk.reads + loads_in l) (sym (ap (λ (l : Lines). l.whole) (lines_are new end s))) (omega (arith, loads.1.1.0, fault.0, fault.1))
   loads_so true new end s fault loads zero_is = absurd (omega arith)
 
   exact_so : (faulted : Bool) (new : World) (end : Counts) (s : SofarAt new end) → s.left ≡ [] → s.rest ≡ [] → HasFault faulted s.lines → status_for faulted ≡ 0 → said_since old new ≡ replay_output print plan old script
@@ -131,16 +135,16 @@ module _ (print : List ℕ → Fp) (plan : Plan) (script : List ℕ) (old : Worl
   fault_so false new end s fault one_is = absurd (omega arith)
   fault_so true new end s fault one_is = subst (λ (l : List (List ℕ)). 0 < faults_in dev.Flash l + faults_in dev.Disk l) (sym (ap (λ (l : Lines). l.whole) (lines_are new end s))) fault
 
-  no_last : (faulted : Bool) (lines : List (List ℕ)) → IfSome (last_line (status_for faulted)) (λ line. IsLast line lines)
-  no_last false lines = tt
-  no_last true lines = tt
+  no_last : (faulted : Bool) (new : World) (end : Counts) → IfSome (last_line (status_for faulted)) (λ line. EndsIn line (said_since old new) before end)
+  no_last false new end = tt
+  no_last true new end = tt
 
   status_small : (faulted : Bool) → (status_for faulted ≡ 8) → ⊥
   status_small false e = omega arith
   status_small true e = omega arith
 
   -- each command was answered
-  pub serves_all : (faulted : Bool) (new : World) (end : Counts) → ServedAll print sizes start commands faulted old.said new.said before end → IsBounded plan old script → Serves print plan (status_for faulted) script old new before end
+  pub serves_all : (faulted : Bool) (new : World) (end : Counts) → AnsweredAll print sizes start commands faulted old.said new.said before end → IsBounded plan old script → Replays print plan (status_for faulted) script old new before end
   serves_all faulted new end served bounded =
       let s = served.sofar in
       let are = lines_are new end s in
@@ -157,15 +161,15 @@ module _ (print : List ℕ → Fp) (plan : Plan) (script : List ℕ) (old : Worl
         fault = fault_so faulted new end s served.fault;
         flash_faults = flash_so new end s;
         disk_faults = disk_so new end s;
-        hits = hits_so new end s;
-        loads = loads_so faulted new end s served.fault served.loads;
-        last = λ still. no_last faulted (lines_since old new);
+        asks = served_more faulted (lines_since old new) end (asks_so 0 new end s served.asks);
+        loads = loads_so faulted new end s served.fault served.asks;
+        last = no_last faulted new end;
         bounded = λ small. bounded;
         long = λ e. absurd (status_small faulted e);
       }
 
   -- an emit failed
-  pub serves_cut : (new : World) (end : Counts) → ServedUpTo print sizes start commands Output old.said new.said before end → Rose before.failed_emits end.failed_emits → Serves print plan 6 script old new before end
+  pub serves_cut : (new : World) (end : Counts) → AnsweredUpTo print sizes start commands Output old.said new.said before end → Rose before.failed_emits end.failed_emits → Replays print plan 6 script old new before end
   serves_cut new end served rose =
       let s = served.sofar in
       record {
@@ -177,9 +181,9 @@ module _ (print : List ℕ → Fp) (plan : Plan) (script : List ℕ) (old : Worl
         fault = λ e. absurd (omega arith);
         flash_faults = flash_so new end s;
         disk_faults = disk_so new end s;
-        hits = hits_so new end s;
+        asks = asks_so 1 new end s s.asks;
         loads = λ e. absurd (omega arith);
-        last = λ still. tt;
+        last = tt;
         bounded = λ small. absurd (omega arith);
         long = λ e. absurd (omega arith);
       }
@@ -217,6 +221,7 @@ module _ (print : List ℕ → Fp) (plan : Plan) (script : List ℕ) (old : Worl
     pub nothing_more : sofar.rest ≡ []
     pub last : last_line (status_of why) ≡ Some (stop_text why)
     pub long : status_of why ≡ 8 → IsBounded plan old script → ⊥
+    pub asks : AsksForLines sizes sofar.lines (unfinished (status_of why)) before end
 
   faults_stop : (device : Dev) (why : Stop) (lines : List (List ℕ)) → faults_in device (lines ++ stop_text why ∷ []) ≡ faults_in device lines
   faults_stop device why lines = faults_snoc device lines (stop_text why) ∙ ap (λ n. faults_in device lines + n) (no_faults device (stop_text why) (stop_no_fault why device)) ∙ plus_none (faults_in device lines)
@@ -224,15 +229,8 @@ module _ (print : List ℕ → Fp) (plan : Plan) (script : List ℕ) (old : Worl
       plus_none : (n : ℕ) → n + 0 ≡ n
       plus_none n = omega arith
 
-  hits_stop : (why : Stop) → hits_in (stop_text why ∷ []) ≡ 0
-  hits_stop stop.Flash = refl
-  hits_stop stop.Disk = refl
-  hits_stop stop.Script = refl
-  hits_stop stop.Length = refl
-  hits_stop stop.Memory = refl
-
   -- the line of the status was said whole
-  stops_whole : (why : Stop) (middle new : World) (between end : Counts) → NeverFalls between end → IsIdle between end → StopsWith why middle between → new.said ≡ middle.said ++ ended (stop_text why) → Serves print plan (status_of why) script old new before end
+  stops_whole : (why : Stop) (middle new : World) (between end : Counts) → NeverFalls between end → IsIdle between end → StopsWith why middle between → new.said ≡ middle.said ++ ended (stop_text why) → Replays print plan (status_of why) script old new before end
   stops_whole why middle new between end later idle stops said =
       let s = stops.sofar in
       let line : List ℕ = stop_text why in
@@ -258,16 +256,16 @@ module _ (print : List ℕ → Fp) (plan : Plan) (script : List ℕ) (old : Worl
         fault = λ e. absurd (omega (arith, stop_status why, e));
         flash_faults = omega (arith, s.flash_faults, later.flash_reads, ap (faults_in dev.Flash) lines, faults_stop dev.Flash why s.lines);
         disk_faults = omega (arith, s.disk_faults, later.disk_reads, ap (faults_in dev.Disk) lines, faults_stop dev.Disk why s.lines);
-        hits = omega (arith, s.hits, ap (λ (d : Calls). d.reads) idle.0, ap hits_in lines, hits_snoc s.lines line, hits_stop why);
+        asks = subst (λ (l : List (List ℕ)). AsksForLines sizes l (unfinished (status_of why)) before end) (sym lines) (asks_stop sizes s.lines why (unfinished (status_of why)) before end (asks_still sizes s.lines (unfinished (status_of why)) before between end idle stops.asks));
         loads = λ e. absurd (omega (arith, stop_status why, e));
-        last = λ still. subst (λ (o : Option (List ℕ)). IfSome o (λ l. IsLast l (lines_since old new))) (sym stops.last) (s.lines, lines);
+        last = subst (λ (o : Option (List ℕ)). IfSome o (λ l. EndsIn l (said_since old new) before end)) (sym stops.last) (s.lines, s.whole, inl since);
         bounded = λ small. absurd (omega (arith, stop_status why));
         long = stops.long;
       }
 
   -- a part of it was
   stops_part : (why : Stop) (middle new : World) (between end : Counts) (n : ℕ) → NeverFalls before between → NeverFalls between end → IsIdle between end → StopsWith why middle between → Rose between.failed_emits end.failed_emits
-      → new.said ≡ middle.said ++ take n (ended (stop_text why)) → n ≤ length (stop_text why) → Serves print plan (status_of why) script old new before end
+      → new.said ≡ middle.said ++ take n (ended (stop_text why)) → n ≤ length (stop_text why) → Replays print plan (status_of why) script old new before end
   stops_part why middle new between end n earlier later idle stops rose said short =
       let line : List ℕ = stop_text why in
       let first = stops.sofar in
@@ -284,7 +282,7 @@ module _ (print : List ℕ → Fp) (plan : Plan) (script : List ℕ) (old : Worl
             ∙ ap (λ (l : List ℕ). l ++ take n line) (first.said ∙ ap (λ (l : List ℕ). old.said ++ flat_map ended first.lines ++ l) stops.nothing_more ∙ append-nil (old.said ++ flat_map ended first.lines));
         flash_faults = omega (arith, first.flash_faults, later.flash_reads);
         disk_faults = omega (arith, first.disk_faults, later.disk_reads);
-        hits = omega (arith, first.hits, ap (λ (d : Calls). d.reads) idle.0);
+        asks = asks_still sizes first.lines 1 before between end idle first.asks;
       } in
       record {
         said = goes_on new end s;
@@ -295,9 +293,10 @@ module _ (print : List ℕ → Fp) (plan : Plan) (script : List ℕ) (old : Worl
         fault = λ e. absurd (omega (arith, stop_status why, e));
         flash_faults = flash_so new end s;
         disk_faults = disk_so new end s;
-        hits = hits_so new end s;
+        asks = asks_so (unfinished (status_of why)) new end s (asks_still sizes first.lines (unfinished (status_of why)) before between end idle stops.asks);
         loads = λ e. absurd (omega (arith, stop_status why, e));
-        last = λ still. absurd (not_both _ _ _ _ earlier.emits (omega arith) still rose);
+        last = subst (λ (o : Option (List ℕ)). IfSome o (λ l. EndsIn l (said_since old new) before end)) (sym stops.last)
+            (first.lines, first.whole, inr (omega (arith, earlier.emits, rose), n, since_lines new end s ∙ ap (λ (l : List ℕ). flat_map ended first.lines ++ l) (sym (cut_part line n short))));
         bounded = λ small. absurd (omega (arith, stop_status why));
         long = stops.long;
       }
@@ -308,7 +307,7 @@ module _ (print : List ℕ → Fp) (plan : Plan) (script : List ℕ) (old : Worl
 
   -- the line of the status was said, or an emit failed
   pub stops_alone : (why : Stop) (middle new : World) (between end : Counts) → NeverFalls before between → NeverFalls between end → IsIdle between end → StopsWith why middle between → SaysAlone (stop_text why) between end middle new
-      → Serves print plan (status_of why) script old new before end
+      → Replays print plan (status_of why) script old new before end
   stops_alone why middle new between end earlier later idle stops (inl said) = stops_whole why middle new between end later idle stops said
   stops_alone why middle new between end earlier later idle stops (inr (rose, n, said)) = ⊎_elim
       (λ (long : length (stop_text why) < n). stops_whole why middle new between end later idle stops (said ∙ ap (λ (l : List ℕ). middle.said ++ l) (cut_some (stop_text why) n long)))
@@ -329,8 +328,15 @@ module _ (print : List ℕ → Fp) (plan : Plan) (script : List ℕ) (old : Worl
   halts_long stop.Length long a b m n h e = h
   halts_long stop.Memory long a b m n h e = absurd h
 
+  halts_asks : (why : Stop) (long : Type 0) (a b : Counts) (m n : ℕ) → Halts long (Stopped why) a b m n → (lines : List (List ℕ)) → AsksForLines sizes lines 1 before b → AsksForLines sizes lines (unfinished (status_of why)) before b
+  halts_asks stop.Flash long a b m n h lines asks = asks
+  halts_asks stop.Disk long a b m n h lines asks = absurd h
+  halts_asks stop.Script long a b m n h lines asks = asks
+  halts_asks stop.Length long a b m n h lines asks = asks
+  halts_asks stop.Memory long a b m n h lines asks = absurd h
+
   -- serving halted
-  pub stops_served : (why : Stop) (middle : World) (end : Counts) (m n : ℕ) → ServedUpTo print sizes start commands (Stopped why) old.said middle.said before end
+  pub stops_served : (why : Stop) (middle : World) (end : Counts) (m n : ℕ) → AnsweredUpTo print sizes start commands (Stopped why) old.said middle.said before end
       → Halts (IsBounded plan old script → ⊥) (Stopped why) before end m n → StopsWith why middle end
   stops_served why middle end m n served halts = record {
     sofar = served.sofar;
@@ -338,12 +344,13 @@ module _ (print : List ℕ → Fp) (plan : Plan) (script : List ℕ) (old : Worl
     nothing_more = served.halts.1;
     last = halts_last why (IsBounded plan old script → ⊥) before end m n halts;
     long = halts_long why (IsBounded plan old script → ⊥) before end m n halts;
+    asks = halts_asks why (IsBounded plan old script → ⊥) before end m n halts served.sofar.lines served.sofar.asks;
   }
 
   -- it never began: no more than a read of the flash was made
-  pub stops_early : (why : Stop) (between : Counts) → NeverFalls before between → plus before.flash.reads 0 ≤ between.flash.reads → last_line (status_of why) ≡ Some (stop_text why) → (status_of why ≡ 8 → ⊥)
+  pub stops_early : (why : Stop) (between : Counts) → NeverFalls before between → AsksForLines sizes [] 0 before between → last_line (status_of why) ≡ Some (stop_text why) → (status_of why ≡ 8 → ⊥)
       → commands ≢ [] → StopsWith why old between
-  stops_early why between later reads last not_long some = record {
+  stops_early why between later asks last not_long some = record {
     sofar = record {
       lines = [];
       state = start;
@@ -356,10 +363,26 @@ module _ (print : List ℕ → Fp) (plan : Plan) (script : List ℕ) (old : Worl
       said = sym (append-nil (old.said ++ []) ∙ append-nil old.said);
       flash_faults = omega (arith, later.flash_reads);
       disk_faults = omega (arith, later.disk_reads);
-      hits = reads;
+      asks = asks_weaker sizes [] before between asks;
     };
     some = some;
     nothing_more = refl;
     last = last;
     long = λ e. absurd (not_long e);
+    asks = early_asks why between asks;
   }
+    where
+      early_asks : (why : Stop) (between : Counts) → AsksForLines sizes [] 0 before between → AsksForLines sizes [] (unfinished (status_of why)) before between
+      early_asks stop.Flash between h = asks_weaker sizes [] before between h
+      early_asks stop.Disk between h = asks_weaker sizes [] before between h
+      early_asks stop.Script between h = asks_weaker sizes [] before between h
+      early_asks stop.Length between h = asks_weaker sizes [] before between h
+      early_asks stop.Memory between h = h
+
+-- a run that stops has a status of its own
+pub stop_large : (why : Stop) → 4 ≤ status_of why
+stop_large stop.Flash = omega arith
+stop_large stop.Disk = omega arith
+stop_large stop.Script = omega arith
+stop_large stop.Length = omega arith
+stop_large stop.Memory = omega arith

@@ -5,7 +5,6 @@ use Rattle.std.specs.List.{AllByRecursion, flat_map, filter_map}
 use Rattle.std.specs.Str.{bytes_eq}
 use Rattle.std.proofs.lemmas.Bool.{cases_lt}
 use Rattle.std.proofs.lemmas.List.{take_all, take-append-le, take-append-drop}
-use Rattle.std.proofs.lemmas.List.Sums.{sum_by-append}
 use Rattle.dd_block.specs.declared.print.Fp.{Fp}
 use Rattle.dd_rig.specs.declared.device.Dev.{Dev}
 use Rattle.dd_rig.specs.declared.device.Dev.TheVariants as dev
@@ -23,12 +22,13 @@ use Rattle.dd_script.specs.Text.{HasNoEnd, ended, fault_text, read_text}
 use Rattle.dd_script.specs.Output.{reply_line}
 use Rattle.dd_script.specs.Answers.{MayFault, AnswersOne, Answered, faults_in}
 use Rattle.dd_script.proofs.Runs.{answered-snoc}
+use Rattle.dd_serve.proofs.Costs.{faults_snoc, AtMostOne, reply_one, fault_one, asks_more, asks_none, asks_part, asks_cut, asks_weaker}
 use Rattle.dd_script.specs.declared.reply.Stop.{Stop}
-use Rattle.dd_serve.specs.Asks.{Asks, is_hit, is_load, hits_in, loads_in}
+use Rattle.dd_serve.specs.Calls.{AsksFor, AsksForLine, AsksForLines}
 use Rattle.dd_serve.specs.declared.halt.Halt.{Halt}
 use Rattle.dd_serve.specs.declared.halt.Halt.TheVariants.{Stopped, Output}
-use Rattle.dd_serve.specs.Reading.{fronted, quits}
-use Rattle.dd_serve.specs.Serving.{Replied, AnswersLine, CutsLine, Sofar, HasFault, ServedAll, ServedUpTo, HaltsAt}
+use Rattle.dd_script.specs.Reading.{fronted, quits}
+use Rattle.dd_serve.specs.Answering.{Replied, AnswersLine, CutsLine, Sofar, HasFault, AnsweredAll, AnsweredUpTo, HaltsAt}
 
 -- a reply says of no device that its read failed
 read_no_fault : (kind : Kind) (block : List ℕ) (out : Option ℕ) (drop : Option Fp) (device : Dev) → bytes_eq (read_text kind block out drop) (fault_text device) ≡ false
@@ -58,9 +58,6 @@ reply_no_fault print sizes s (bad bad_is.Rest) dev.Flash = refl
 reply_no_fault print sizes s (bad bad_is.Rest) dev.Disk = refl
 
 -- one line more
-pub faults_snoc : (device : Dev) (lines : List (List ℕ)) (line : List ℕ) → faults_in device (lines ++ line ∷ []) ≡ faults_in device lines + faults_in device (line ∷ [])
-faults_snoc device lines line = sum_by-append (λ l. if bytes_eq l (fault_text device) then 1 else 0) lines (line ∷ [])
-
 pub no_faults : (device : Dev) (line : List ℕ) → bytes_eq line (fault_text device) ≡ false → faults_in device (line ∷ []) ≡ 0
 no_faults device line e = ap (λ b. 0 + (if b then 1 else 0)) e
 
@@ -110,21 +107,6 @@ one_more_read a b c n h r = omega (arith, h, r)
 no_more_reads : (a b c n m : ℕ) → m ≡ n + 0 → plus a n ≤ b → b ≤ c → plus a m ≤ c
 no_more_reads a b c n m e h r = omega (arith, e, h, r)
 
-pub hits_snoc : (lines : List (List ℕ)) (line : List ℕ) → hits_in (lines ++ line ∷ []) ≡ hits_in lines + hits_in (line ∷ [])
-hits_snoc lines line = sum_by-append (λ l. if is_hit l then 1 else 0) lines (line ∷ [])
-
-loads_snoc : (lines : List (List ℕ)) (line : List ℕ) → loads_in (lines ++ line ∷ []) ≡ loads_in lines + loads_in (line ∷ [])
-loads_snoc lines line = sum_by-append (λ l. if is_load l then 1 else 0) lines (line ∷ [])
-
--- a fault line tells no hit
-no_hit : (device : Dev) (line : List ℕ) → line ≡ fault_text device → hits_in (line ∷ []) ≡ 0
-no_hit dev.Flash line e = ap (λ (l : List ℕ). hits_in (l ∷ [])) e
-no_hit dev.Disk line e = ap (λ (l : List ℕ). hits_in (l ∷ [])) e
-
--- how many of the lines may have asked the disk
-abbrev pub asking : List (List ℕ) → ℕ
-asking lines = loads_in lines + (faults_in dev.Flash lines + faults_in dev.Disk lines)
-
 -- whether nothing but a quit is left
 abbrev pub after_front : Option Command → List Command → List Command
 after_front None left = left
@@ -158,10 +140,10 @@ module _ (print : List ℕ → Fp) (sizes : Sizes) (start : State) (commands : L
     pub flash_faults : plus before.flash.failed_reads (faults_in dev.Flash lines) ≤ end.flash.failed_reads
     pub disk_faults : plus before.disk.failed_reads (faults_in dev.Disk lines) ≤ end.disk.failed_reads
     pub fault : HasFault faulted lines
-    pub asks : Asks (hits_in lines) (asking lines) before end
+    pub asks : AsksForLines sizes lines 0 before end
 
   -- the counts go on
-  pub going_later : (faulted : Bool) (said_after : List ℕ) (a b : Counts) (state : State) (left : List Command) → NeverFalls a b → Asks 0 0 a b → Going faulted said_after a state left → Going faulted said_after b state left
+  pub going_later : (faulted : Bool) (said_after : List ℕ) (a b : Counts) (state : State) (left : List Command) → NeverFalls a b → AsksFor sizes.block sizes.bcap 0 0 0 a b → Going faulted said_after a state left → Going faulted said_after b state left
   going_later faulted said_after a b state left h none g = record {
     lines = g.lines;
     answered = g.answered;
@@ -170,7 +152,7 @@ module _ (print : List ℕ → Fp) (sizes : Sizes) (start : State) (commands : L
     flash_faults = omega (arith, g.flash_faults, h.flash_reads);
     disk_faults = omega (arith, g.disk_faults, h.disk_reads);
     fault = g.fault;
-    asks = (omega (arith, g.asks.0, none.0), omega (arith, g.asks.1, none.1));
+    asks = asks_none sizes g.lines before a b g.asks none;
   }
 
   one_of : (faulted : Bool) (command : Command) (line : List ℕ) (old new : State) (a b : Counts) → Replied print sizes faulted command line old new a b → AnswersOne print sizes old command line new
@@ -182,10 +164,10 @@ module _ (print : List ℕ → Fp) (sizes : Sizes) (start : State) (commands : L
   flash_more false command line old new a b lines later r h =
       let none = ap (λ (l : List ℕ). faults_in dev.Flash (l ∷ [])) r.0 ∙ no_faults dev.Flash (reply_line print sizes old command) (reply_no_fault print sizes old command dev.Flash) in
       no_more_reads _ _ _ _ _ (faults_snoc dev.Flash lines line ∙ ap (λ n. faults_in dev.Flash lines + n) none) h later.flash_reads
-  flash_more true command line old new a b lines later (dev.Flash, is, may, same, rose) h =
+  flash_more true command line old new a b lines later (dev.Flash, is, may, same, rose, asks) h =
       let e : faults_in dev.Flash (lines ++ line ∷ []) ≡ faults_in dev.Flash lines + 1 = faults_snoc dev.Flash lines line ∙ ap (λ n. faults_in dev.Flash lines + n) (one_fault dev.Flash line is) in
       subst (λ n. plus before.flash.failed_reads n ≤ b.flash.failed_reads) (sym e) (one_more_read _ _ _ _ h rose)
-  flash_more true command line old new a b lines later (dev.Disk, is, may, same, rose) h =
+  flash_more true command line old new a b lines later (dev.Disk, is, may, same, rose, asks) h =
       no_more_reads _ _ _ _ _ (faults_snoc dev.Flash lines line ∙ ap (λ n. faults_in dev.Flash lines + n) (flash_of_disk line is)) h later.flash_reads
 
   disk_more : (faulted : Bool) (command : Command) (line : List ℕ) (old new : State) (a b : Counts) (lines : List (List ℕ)) → NeverFalls a b → Replied print sizes faulted command line old new a b
@@ -193,10 +175,10 @@ module _ (print : List ℕ → Fp) (sizes : Sizes) (start : State) (commands : L
   disk_more false command line old new a b lines later r h =
       let none = ap (λ (l : List ℕ). faults_in dev.Disk (l ∷ [])) r.0 ∙ no_faults dev.Disk (reply_line print sizes old command) (reply_no_fault print sizes old command dev.Disk) in
       no_more_reads _ _ _ _ _ (faults_snoc dev.Disk lines line ∙ ap (λ n. faults_in dev.Disk lines + n) none) h later.disk_reads
-  disk_more true command line old new a b lines later (dev.Disk, is, may, same, rose) h =
+  disk_more true command line old new a b lines later (dev.Disk, is, may, same, rose, asks) h =
       let e : faults_in dev.Disk (lines ++ line ∷ []) ≡ faults_in dev.Disk lines + 1 = faults_snoc dev.Disk lines line ∙ ap (λ n. faults_in dev.Disk lines + n) (one_fault dev.Disk line is) in
       subst (λ n. plus before.disk.failed_reads n ≤ b.disk.failed_reads) (sym e) (one_more_read _ _ _ _ h rose)
-  disk_more true command line old new a b lines later (dev.Flash, is, may, same, rose) h =
+  disk_more true command line old new a b lines later (dev.Flash, is, may, same, rose, asks) h =
       no_more_reads _ _ _ _ _ (faults_snoc dev.Disk lines line ∙ ap (λ n. faults_in dev.Disk lines + n) (disk_of_flash line is)) h later.disk_reads
 
   -- whether a fault line came so far
@@ -210,23 +192,22 @@ module _ (print : List ℕ → Fp) (sizes : Sizes) (start : State) (commands : L
       let disk = ap (λ (l : List ℕ). faults_in dev.Disk (l ∷ [])) r.0 ∙ no_faults dev.Disk (reply_line print sizes old command) (reply_no_fault print sizes old command dev.Disk) in
       (omega (arith, faults_snoc dev.Flash lines line, flash, h.0), omega (arith, faults_snoc dev.Disk lines line, disk, h.1))
   fault_more false true command line old new a b lines r h = omega (arith, faults_snoc dev.Flash lines line, faults_snoc dev.Disk lines line, h)
-  fault_more true false command line old new a b lines (dev.Flash, is, may, same, rose) h = omega (arith, faults_snoc dev.Flash lines line, faults_snoc dev.Disk lines line, one_fault dev.Flash line is)
-  fault_more true false command line old new a b lines (dev.Disk, is, may, same, rose) h = omega (arith, faults_snoc dev.Flash lines line, faults_snoc dev.Disk lines line, one_fault dev.Disk line is)
+  fault_more true false command line old new a b lines (dev.Flash, is, may, same, rose, asks) h = omega (arith, faults_snoc dev.Flash lines line, faults_snoc dev.Disk lines line, one_fault dev.Flash line is)
+  fault_more true false command line old new a b lines (dev.Disk, is, may, same, rose, asks) h = omega (arith, faults_snoc dev.Flash lines line, faults_snoc dev.Disk lines line, one_fault dev.Disk line is)
   fault_more true true command line old new a b lines r h = omega (arith, faults_snoc dev.Flash lines line, faults_snoc dev.Disk lines line, h)
 
-  asks_more : (answered : Bool) (command : Command) (line : List ℕ) (old new : State) (a b : Counts) (lines : List (List ℕ)) → Asks 0 1 a b → Replied print sizes answered command line old new a b
-      → Asks (hits_in lines) (asking lines) before a → Asks (hits_in (lines ++ line ∷ [])) (asking (lines ++ line ∷ [])) before b
-  asks_more false command line old new a b lines one r h =
-      (omega (arith, hits_snoc lines line, h.0, r.2.0), omega (arith, loads_snoc lines line, faults_snoc dev.Flash lines line, faults_snoc dev.Disk lines line, h.1, r.2.1))
-  asks_more true command line old new a b lines one (dev.Flash, is, may, same, rose) h =
-      (omega (arith, hits_snoc lines line, no_hit dev.Flash line is, h.0, one.0), omega (arith, loads_snoc lines line, faults_snoc dev.Flash lines line, faults_snoc dev.Disk lines line, one_fault dev.Flash line is, h.1, one.1))
-  asks_more true command line old new a b lines one (dev.Disk, is, may, same, rose) h =
-      (omega (arith, hits_snoc lines line, no_hit dev.Disk line is, h.0, one.0), omega (arith, loads_snoc lines line, faults_snoc dev.Flash lines line, faults_snoc dev.Disk lines line, one_fault dev.Disk line is, h.1, one.1))
+  asks_of : (answered : Bool) (command : Command) (line : List ℕ) (old new : State) (a b : Counts) → Replied print sizes answered command line old new a b → AsksForLine sizes line a b
+  asks_of false command line old new a b r = r.2
+  asks_of true command line old new a b (device, is, may, same, rose, asks) = asks
+
+  one_line : (answered : Bool) (command : Command) (line : List ℕ) (old new : State) (a b : Counts) → Replied print sizes answered command line old new a b → AtMostOne line
+  one_line false command line old new a b r = subst AtMostOne (sym r.0) (reply_one print sizes old command)
+  one_line true command line old new a b (device, is, may, same, rose, asks) = subst AtMostOne (sym is) (fault_one device)
 
   -- one command more is answered
-  going_on : (answered faulted : Bool) (command : Command) (line said_now said_after : List ℕ) (old new : State) (a b : Counts) (left : List Command) → NeverFalls a b → Asks 0 1 a b → HasNoEnd line → said_after ≡ said_now ++ ended line
+  going_on : (answered faulted : Bool) (command : Command) (line said_now said_after : List ℕ) (old new : State) (a b : Counts) (left : List Command) → NeverFalls a b → HasNoEnd line → said_after ≡ said_now ++ ended line
       → Replied print sizes answered command line old new a b → Going faulted said_now a old (command ∷ left) → Going (either_fault answered faulted) said_after b new left
-  going_on answered faulted command line said_now said_after old new a b left later one no_end said r g = record {
+  going_on answered faulted command line said_now said_after old new a b left later no_end said r g = record {
     lines = g.lines ++ line ∷ [];
     answered = answered-snoc print sizes g.lines start old new commands left command line g.answered (one_of answered command line old new a b r);
     whole = whole_snoc g.lines line g.whole no_end;
@@ -234,18 +215,18 @@ module _ (print : List ℕ → Fp) (sizes : Sizes) (start : State) (commands : L
     flash_faults = flash_more answered command line old new a b g.lines later r g.flash_faults;
     disk_faults = disk_more answered command line old new a b g.lines later r g.disk_faults;
     fault = fault_more answered faulted command line old new a b g.lines r g.fault;
-    asks = asks_more answered command line old new a b g.lines one r g.asks;
+    asks = asks_more sizes g.lines line before a b g.asks (asks_of answered command line old new a b r);
   }
 
   -- one line more is answered
-  pub going_line : (o : Option Command) (answered faulted : Bool) (said_now said_after : List ℕ) (old new : State) (a b : Counts) (left : List Command) → NeverFalls a b → Asks 0 1 a b → AnswersLine print sizes o answered old new said_now said_after a b
+  pub going_line : (o : Option Command) (answered faulted : Bool) (said_now said_after : List ℕ) (old new : State) (a b : Counts) (left : List Command) → NeverFalls a b → AnswersLine print sizes o answered old new said_now said_after a b
       → Going faulted said_now a old (fronted o left) → Going (either_fault answered faulted) said_after b new (after_front o left)
-  going_line None answered faulted said_now said_after old new a b left later one (none, same, said, idle) g =
+  going_line None answered faulted said_now said_after old new a b left later (none, same, said, idle) g =
       subst (λ (t : Bool). Going (either_fault t faulted) said_after b new left) (sym none) (subst (λ (t : Bool). Going t said_after b new left) (sym (or_none faulted))
       (subst (λ (s : State). Going faulted said_after b s left) (sym same) (subst (λ (l : List ℕ). Going faulted l b old left) (sym said) (going_later faulted said_now a b old left later idle g))))
-  going_line (Some (read address)) answered faulted said_now said_after old new a b left later one (line, no_end, said, r) g = going_on answered faulted (read address) line said_now said_after old new a b left later one no_end said r g
-  going_line (Some quit) answered faulted said_now said_after old new a b left later one (line, no_end, said, r) g = going_on answered faulted quit line said_now said_after old new a b [] later one no_end said r g
-  going_line (Some (bad kind)) answered faulted said_now said_after old new a b left later one (line, no_end, said, r) g = going_on answered faulted (bad kind) line said_now said_after old new a b left later one no_end said r g
+  going_line (Some (read address)) answered faulted said_now said_after old new a b left later (line, no_end, said, r) g = going_on answered faulted (read address) line said_now said_after old new a b left later no_end said r g
+  going_line (Some quit) answered faulted said_now said_after old new a b left later (line, no_end, said, r) g = going_on answered faulted quit line said_now said_after old new a b [] later no_end said r g
+  going_line (Some (bad kind)) answered faulted said_now said_after old new a b left later (line, no_end, said, r) g = going_on answered faulted (bad kind) line said_now said_after old new a b left later no_end said r g
 
   sofar : (faulted : Bool) (said_after : List ℕ) (end : Counts) (state : State) (left : List Command) → Going faulted said_after end state left → Sofar print sizes start commands said_before said_after before end
   sofar faulted said_after end state left g = record {
@@ -260,18 +241,18 @@ module _ (print : List ℕ → Fp) (sizes : Sizes) (start : State) (commands : L
     said = g.said ∙ sym (append-nil (said_before ++ flat_map ended g.lines));
     flash_faults = g.flash_faults;
     disk_faults = g.disk_faults;
-    hits = g.asks.0;
+    asks = asks_weaker sizes g.lines before end g.asks;
   }
 
   -- each command is answered
-  pub going_all : (faulted : Bool) (said_after : List ℕ) (end : Counts) (state : State) → Going faulted said_after end state [] → ServedAll print sizes start commands faulted said_before said_after before end
+  pub going_all : (faulted : Bool) (said_after : List ℕ) (end : Counts) (state : State) → Going faulted said_after end state [] → AnsweredAll print sizes start commands faulted said_before said_after before end
   unfolding sofar
   going_all faulted said_after end state g = record {
     sofar = sofar faulted said_after end state [] g;
     all = refl;
     nothing_more = refl;
     fault = g.fault;
-    loads = g.asks.1;
+    asks = g.asks;
   }
 
   halts_here : (halt : Halt) (left : List Command) → left ≢ [] → HaltsAt halt left []
@@ -280,7 +261,7 @@ module _ (print : List ℕ → Fp) (sizes : Sizes) (start : State) (commands : L
 
   -- the run halts between two lines
   pub halts_between : (halt : Halt) (faulted : Bool) (said_after : List ℕ) (end : Counts) (state : State) (left : List Command) → left ≢ [] → Going faulted said_after end state left
-      → ServedUpTo print sizes start commands halt said_before said_after before end
+      → AnsweredUpTo print sizes start commands halt said_before said_after before end
   unfolding sofar
   halts_between halt faulted said_after end state left some g = record { sofar = sofar faulted said_after end state left g; halts = halts_here halt left some }
 
@@ -289,9 +270,9 @@ module _ (print : List ℕ → Fp) (sizes : Sizes) (start : State) (commands : L
   may_come true command line old new a b r = inr r.2
 
   -- within a line
-  halts_part : (command : Command) (answered faulted : Bool) (line said_now said_after : List ℕ) (n : ℕ) (old new : State) (a b : Counts) (left : List Command) → NeverFalls a b → Asks 0 1 a b → HasNoEnd line → said_after ≡ said_now ++ take n (ended line)
-      → Replied print sizes answered command line old new a b → n ≤ length line → Going faulted said_now a old (command ∷ left) → ServedUpTo print sizes start commands Output said_before said_after before b
-  halts_part command answered faulted line said_now said_after n old new a b left later one no_end said r short g = record {
+  halts_part : (command : Command) (answered faulted : Bool) (line said_now said_after : List ℕ) (n : ℕ) (old new : State) (a b : Counts) (left : List Command) → NeverFalls a b → HasNoEnd line → said_after ≡ said_now ++ take n (ended line)
+      → Replied print sizes answered command line old new a b → n ≤ length line → Going faulted said_now a old (command ∷ left) → AnsweredUpTo print sizes start commands Output said_before said_after before b
+  halts_part command answered faulted line said_now said_after n old new a b left later no_end said r short g = record {
     sofar = record {
       lines = g.lines;
       state = old;
@@ -304,31 +285,31 @@ module _ (print : List ℕ → Fp) (sizes : Sizes) (start : State) (commands : L
       said = said ∙ ap (λ (l : List ℕ). said_now ++ l) (cut_part line n short) ∙ ap (λ (l : List ℕ). l ++ take n line) g.said;
       flash_faults = omega (arith, g.flash_faults, later.flash_reads);
       disk_faults = omega (arith, g.disk_faults, later.disk_reads);
-      hits = omega (arith, g.asks.0, one.0);
+      asks = (let least = one_line answered command line old new a b r in asks_part sizes g.lines line before a b g.asks (asks_of answered command line old new a b r) least.hit least.look least.miss);
     };
     halts = tt;
   }
 
   -- or behind a line, where its emit failed all the same
-  halts_whole : (command : Command) (answered faulted : Bool) (line said_now said_after : List ℕ) (n : ℕ) (old new : State) (a b : Counts) (left : List Command) → NeverFalls a b → Asks 0 1 a b → HasNoEnd line → said_after ≡ said_now ++ take n (ended line)
-      → Replied print sizes answered command line old new a b → length line < n → Going faulted said_now a old (command ∷ left) → ServedUpTo print sizes start commands Output said_before said_after before b
+  halts_whole : (command : Command) (answered faulted : Bool) (line said_now said_after : List ℕ) (n : ℕ) (old new : State) (a b : Counts) (left : List Command) → NeverFalls a b → HasNoEnd line → said_after ≡ said_now ++ take n (ended line)
+      → Replied print sizes answered command line old new a b → length line < n → Going faulted said_now a old (command ∷ left) → AnsweredUpTo print sizes start commands Output said_before said_after before b
   unfolding sofar
-  halts_whole command answered faulted line said_now said_after n old new a b left later one no_end said r long g = record {
-    sofar = sofar (either_fault answered faulted) said_after b new left (going_on answered faulted command line said_now said_after old new a b left later one no_end (said ∙ ap (λ (l : List ℕ). said_now ++ l) (cut_some line n long)) r g);
+  halts_whole command answered faulted line said_now said_after n old new a b left later no_end said r long g = record {
+    sofar = sofar (either_fault answered faulted) said_after b new left (going_on answered faulted command line said_now said_after old new a b left later no_end (said ∙ ap (λ (l : List ℕ). said_now ++ l) (cut_some line n long)) r g);
     halts = tt;
   }
 
-  halts_line : (command : Command) (answered faulted : Bool) (line said_now said_after : List ℕ) (n : ℕ) (old new : State) (a b : Counts) (left : List Command) → NeverFalls a b → Asks 0 1 a b → HasNoEnd line → said_after ≡ said_now ++ take n (ended line)
-      → Replied print sizes answered command line old new a b → Going faulted said_now a old (command ∷ left) → ServedUpTo print sizes start commands Output said_before said_after before b
-  halts_line command answered faulted line said_now said_after n old new a b left later one no_end said r g = ⊎_elim
-      (λ (long : length line < n). halts_whole command answered faulted line said_now said_after n old new a b left later one no_end said r long g)
-      (λ (short : n ≤ length line). halts_part command answered faulted line said_now said_after n old new a b left later one no_end said r short g)
+  halts_line : (command : Command) (answered faulted : Bool) (line said_now said_after : List ℕ) (n : ℕ) (old new : State) (a b : Counts) (left : List Command) → NeverFalls a b → HasNoEnd line → said_after ≡ said_now ++ take n (ended line)
+      → Replied print sizes answered command line old new a b → Going faulted said_now a old (command ∷ left) → AnsweredUpTo print sizes start commands Output said_before said_after before b
+  halts_line command answered faulted line said_now said_after n old new a b left later no_end said r g = ⊎_elim
+      (λ (long : length line < n). halts_whole command answered faulted line said_now said_after n old new a b left later no_end said r long g)
+      (λ (short : n ≤ length line). halts_part command answered faulted line said_now said_after n old new a b left later no_end said r short g)
       (cases_lt (length line) n)
 
   -- a write failed, and nothing was said
-  halts_after : (why : Stop) (faulted : Bool) (said_now said_after : List ℕ) (state : State) (left : List Command) (a b : Counts) → NeverFalls a b → Asks 0 1 a b → left ≢ [] → said_after ≡ said_now → Going faulted said_now a state left
-      → ServedUpTo print sizes start commands (Stopped why) said_before said_after before b
-  halts_after why faulted said_now said_after state left a b later one some said g = record {
+  halts_after : (why : Stop) (faulted : Bool) (said_now said_after : List ℕ) (state : State) (left : List Command) (a b : Counts) → NeverFalls a b → left ≢ [] → said_after ≡ said_now → AsksFor sizes.block sizes.bcap 0 1 1 a b → Going faulted said_now a state left
+      → AnsweredUpTo print sizes start commands (Stopped why) said_before said_after before b
+  halts_after why faulted said_now said_after state left a b later some said begun g = record {
     sofar = record {
       lines = g.lines;
       state = state;
@@ -341,16 +322,16 @@ module _ (print : List ℕ → Fp) (sizes : Sizes) (start : State) (commands : L
       said = said ∙ g.said ∙ sym (append-nil (said_before ++ flat_map ended g.lines));
       flash_faults = omega (arith, g.flash_faults, later.flash_reads);
       disk_faults = omega (arith, g.disk_faults, later.disk_reads);
-      hits = omega (arith, g.asks.0, one.0);
+      asks = asks_cut sizes g.lines before a b g.asks begun;
     };
     halts = (some, refl);
   }
 
   -- a command halts the run
-  pub halts_command : (halt : Halt) (o : Option Command) (faulted : Bool) (said_now said_after : List ℕ) (old : State) (a b : Counts) (left : List Command) → NeverFalls a b → Asks 0 1 a b → fronted o left ≢ []
-      → CutsLine print sizes halt o old said_now said_after a b → Going faulted said_now a old (fronted o left) → ServedUpTo print sizes start commands halt said_before said_after before b
-  halts_command (Stopped why) o faulted said_now said_after old a b left later one some said g = halts_after why faulted said_now said_after old (fronted o left) a b later one some said g
-  halts_command Output None faulted said_now said_after old a b left later one some cut g = absurd cut
-  halts_command Output (Some (read address)) faulted said_now said_after old a b left later one some (line, n, no_end, said, answered, new, r) g = halts_line (read address) answered faulted line said_now said_after n old new a b left later one no_end said r g
-  halts_command Output (Some quit) faulted said_now said_after old a b left later one some (line, n, no_end, said, answered, new, r) g = halts_line quit answered faulted line said_now said_after n old new a b [] later one no_end said r g
-  halts_command Output (Some (bad kind)) faulted said_now said_after old a b left later one some (line, n, no_end, said, answered, new, r) g = halts_line (bad kind) answered faulted line said_now said_after n old new a b left later one no_end said r g
+  pub halts_command : (halt : Halt) (o : Option Command) (faulted : Bool) (said_now said_after : List ℕ) (old : State) (a b : Counts) (left : List Command) → NeverFalls a b → fronted o left ≢ []
+      → CutsLine print sizes halt o old said_now said_after a b → Going faulted said_now a old (fronted o left) → AnsweredUpTo print sizes start commands halt said_before said_after before b
+  halts_command (Stopped why) o faulted said_now said_after old a b left later some said g = halts_after why faulted said_now said_after old (fronted o left) a b later some said.0 said.1 g
+  halts_command Output None faulted said_now said_after old a b left later some cut g = absurd cut
+  halts_command Output (Some (read address)) faulted said_now said_after old a b left later some (line, n, no_end, said, answered, new, r) g = halts_line (read address) answered faulted line said_now said_after n old new a b left later no_end said r g
+  halts_command Output (Some quit) faulted said_now said_after old a b left later some (line, n, no_end, said, answered, new, r) g = halts_line quit answered faulted line said_now said_after n old new a b [] later no_end said r g
+  halts_command Output (Some (bad kind)) faulted said_now said_after old a b left later some (line, n, no_end, said, answered, new, r) g = halts_line (bad kind) answered faulted line said_now said_after n old new a b left later no_end said r g

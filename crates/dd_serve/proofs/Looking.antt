@@ -1,15 +1,14 @@
 -- The look at byte 0 of the flash, before a replay.
-use Rattle.std.proofs.Common.{◌≡◌, ◌∙◌, ℕ, List, ap, arith, Ok}
+use Rattle.std.proofs.Common.{◌≡◌, ◌∙◌, [], ap, arith, subst, sym}
 use Rattle.std.specs.Prelude.{Result}
-use Rattle.dd_block.specs.declared.print.Fp.{Fp}
 use Rattle.dd_rig.specs.declared.device.Dev.TheVariants as dev
 use Rattle.dd_rig.specs.declared.tallies.Calls.{Calls}
 use Rattle.dd_rig.specs.declared.tallies.Counts.{Counts}
-use Rattle.dd_rig.specs.Counts.{count_read}
-use Rattle.dd_rig.specs.World.{World}
-use Rattle.dd_serve.specs.declared.words.Plan.{Plan}
+use Rattle.dd_rig.specs.Counts.{NeverFalls, count_read}
+use Rattle.dd_model.specs.State.{Sizes}
+use Rattle.dd_serve.specs.Calls.{AsksForLines, looked}
+use Rattle.dd_serve.proofs.Costs.{asks_early}
 use Rattle.dd_serve.specs.Saying.{IsIdle, OnlyLooks}
-use Rattle.dd_serve.specs.Run.{Serves}
 
 -- one read of the flash, and no call of a device behind it
 pub only_looks : {T E : Type 0} (r : Result T E) (a b d : Counts) → b ≡ count_read dev.Flash r a → IsIdle b d → OnlyLooks a d
@@ -24,21 +23,10 @@ only_looks r a b d looked idle = (
   ap (λ (k : Calls). k.reads) idle.1 ∙ ap (λ (k : Counts). k.disk.reads) looked,
 )
 
--- a replay behind one read of the flash
-pub serves_sooner : (T E : Type 0) (x : T) (print : List ℕ → Fp) (plan : Plan) (status : ℕ) (script : List ℕ) (old new : World) (before after : Counts)
-    → Serves print plan status script old new (count_read {T = T} {E = E} dev.Flash (Ok x) before) after → Serves print plan status script old new before after
-serves_sooner T E x print plan status script old new before after s = record {
-  said = s.said;
-  answers = s.answers;
-  whole = s.whole;
-  all = s.all;
-  exact = s.exact;
-  fault = s.fault;
-  flash_faults = s.flash_faults;
-  disk_faults = s.disk_faults;
-  hits = omega (arith, s.hits);
-  loads = s.loads;
-  last = s.last;
-  bounded = s.bounded;
-  long = s.long;
-}
+-- behind the look no count of failures has fallen
+pub looked_falls : (a b : Counts) → NeverFalls a b → NeverFalls (looked a) b
+looked_falls a b h = record { flash_reads = h.flash_reads; flash_writes = h.flash_writes; disk_reads = h.disk_reads; disk_writes = h.disk_writes; emits = h.emits }
+
+-- and no line was said
+pub asks_looked : {T E : Type 0} (sizes : Sizes) (r : Result T E) (a b : Counts) → b ≡ count_read dev.Flash r a → AsksForLines sizes [] 0 (looked a) b
+asks_looked sizes r a b e = subst (λ (k : Counts). AsksForLines sizes [] 0 (looked a) k) (sym e) (asks_early sizes (looked a) (count_read dev.Flash r a) (omega arith) (omega arith) (omega arith) (omega arith) (omega arith) (omega arith) (omega arith))

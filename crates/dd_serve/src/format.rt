@@ -14,8 +14,8 @@ ghost use Rattle.dd_serve.specs.Formats.{CallsOfFormat, Formats, FormatLeaves, I
 ghost use Rattle.dd_serve.specs.Refusing.{Refuses, StopsAtDevice, small_for, refusal_for};
 ghost use Rattle.dd_serve.specs.declared.words.Asked.TheVariants.{Format};
 
+use crate::answering::say;
 use crate::last_line::end;
-use crate::serving::say;
 use dd_block::Geometry;
 use dd_recover::{FormatFault, format_flash};
 use dd_rig::Rig;

@@ -6,7 +6,7 @@ ghost use Rattle.dd_recover.specs.Formatting.{IsOwn};
 ghost use Rattle.dd_script.specs.Text.{HasNoEnd, reply_text};
 ghost use Rattle.dd_serve.specs.Saying.{IsIdle, SaysAlone};
 
-use crate::serving::say;
+use crate::answering::say;
 use dd_rig::Rig;
 use dd_script::{REPLY_ROOM, Reply, write_reply};
 

@@ -1,33 +1,36 @@
 // Serving the reads of a script, with the flash as scratch.
 ghost use Rattle.std.specs.Prelude.{◌≡◌, ◌≢◌, ◌⊎◌, ◌==◌, ◌≤◌, None, ℕ, slice_index, IfOk, OnOk, OnErr, IfErr};
-ghost use Rattle.dd_rig.specs.Counts.{Rose, NeverFalls, count_read};
+ghost use Rattle.dd_rig.specs.Counts.{Frame, Rose, NeverFalls, count_read};
 ghost use Rattle.dd_rig.specs.declared.device.Dev.TheVariants.{Flash as FlashDevice, Disk as DiskDevice};
 ghost use Rattle.dd_rig.specs.World.{shown};
+ghost use Rattle.dd_script.specs.Reading.{IsTakenTo};
 ghost use Rattle.dd_script.specs.Text.{stop_text};
 ghost use Rattle.dd_script.specs.declared.reply.Stop.TheVariants.{Memory};
 ghost use Rattle.dd_serve.specs.declared.words.Asked.TheVariants.{Replay};
 ghost use Rattle.dd_serve.specs.Causes.{Halts};
 ghost use Rattle.dd_serve.specs.Words.{IsPlan};
-ghost use Rattle.dd_serve.specs.Saying.{IsIdle, OnlyLooks, SaysAlone, front_of};
+ghost use Rattle.dd_rig.specs.Clock.{AddsNone, Elapses};
+ghost use Rattle.dd_serve.specs.Calls.{looked};
+ghost use Rattle.dd_serve.specs.Scratch.{Scratched, KeepsDevices};
+ghost use Rattle.dd_serve.specs.Saying.{IsIdle, OnlyLooks, SaysAlone};
 ghost use Rattle.dd_serve.specs.Refusing.{Refuses, StopsAtDevice, small_for, refusal_for};
-ghost use Rattle.dd_serve.specs.Serving.{ServedAll, ServedUpTo};
-ghost use Rattle.dd_serve.specs.Run.{Serves, status_of, IsBounded, first_cache, replay_sizes, replay_start, replay_commands};
+ghost use Rattle.dd_serve.specs.Answering.{AnsweredAll, AnsweredUpTo};
+ghost use Rattle.dd_serve.specs.Replays.{Replays, status_of, IsBounded, first_scratch, replay_sizes, replay_start, replay_commands, replay_blocks};
 
-use crate::cache::Cache;
+use crate::answering::serve;
 use crate::halt::Halt;
 use crate::last_line::end;
-use crate::reader::{LINE_ROOM, Reader};
-use crate::serving::serve;
+use crate::scratch::Scratch;
 use crate::words::Plan;
 use dd_block::Fingerprint;
 use dd_rig::{Dev, Failed, Rig, Source};
-use dd_script::{REPLY_ROOM, Refusal, Reply, Stop};
+use dd_script::{REPLY_ROOM, Reader, Refusal, Reply, Stop};
 use std::alloc::{AllocError, Global};
 
 /// The greatest number of blocks.
 const MOST_BLOCKS: u64 = 16_777_216;
 
-/// Serves the script over devices that are large enough, and answers the status. A flash in use is
+/// Replays the script over devices that are large enough, and answers the status. A flash in use is
 /// refused.
 pub fn run_replay<F: Fingerprint, R: Rig, S: Source>(
     alloc: Global,
@@ -45,9 +48,11 @@ pub fn run_replay<F: Fingerprint, R: Rig, S: Source>(
     ensures device { result ≡ 7 → StopsAtDevice (Replay plan) (λ line. R.tells → SaysAlone line (R.counts rig.old) (R.counts rig.new) (R.world rig.old) (R.world rig.new)) (R.counts rig.old) (R.counts rig.new) }
     ensures memory { R.tells → result ≡ 4 → SaysAlone (stop_text Memory) (R.counts rig.old) (R.counts rig.new) (R.world rig.old) (R.world rig.new) }
     ensures served { R.tells → S.tells → refusal_for (Replay plan) (R.device_size rig.old) (shown FlashDevice (R.world rig.old)) ≡ None
-        → Serves (F.printed print.now) plan result (S.rest source.old) (R.world rig.old) (R.world rig.new) (R.counts rig.old) (R.counts rig.new) }
-    ensures disk { R.tells → (R.world rig.new).disk ≡ (R.world rig.old).disk }
-    ensures front { R.tells → front_of (R.world rig.new) ≡ front_of (R.world rig.old) }
+        → Replays (F.printed print.now) plan result (S.rest source.old) (R.world rig.old) (R.world rig.new) (looked (R.counts rig.old)) (R.counts rig.new) }
+    ensures taken { R.tells → S.tells → result ≤ 1 → IsTakenTo (replay_blocks plan (R.world rig.old)) (S.rest source.old) (S.rest source.new) }
+    ensures untaken { (result ≡ 3) ⊎ (result ≡ 4) → source.new ≡ source.old }
+    ensures others { R.tells → Scratched (R.world rig.old) (R.world rig.new) }
+    ensures time { R.tells → Elapses (R.clock rig.old) (R.clock rig.new) (KeepsDevices (R.world rig.old)) }
     ensures untouched { (R.counts rig.new).disk.writes ≡ (R.counts rig.old).disk.writes }
     ensures looks { (result ≡ 3) ⊎ (result ≡ 4) → OnlyLooks (R.counts rig.old) (R.counts rig.new) }
 {
@@ -63,17 +68,17 @@ fn is_in_use<R: Rig>(rig: &mut R) -> Result<bool, Failed>
     requires { 1 ≤ R.device_size rig.old FlashDevice }
     ensures used { R.tells → IfOk result (λ used. used ≡ (slice_index (shown FlashDevice (R.world rig.old)) 0 == 1)) }
     ensures world { R.tells → R.world rig.new ≡ R.world rig.old }
+    ensures time { R.tells → AddsNone (R.clock rig.old) (R.clock rig.new) }
     ensures counts { R.counts rig.new ≡ count_read FlashDevice result (R.counts rig.old) }
-    ensures later { NeverFalls (R.counts rig.old) (R.counts rig.new) }
+    ensures frame { Frame (R.counts rig.old) (R.counts rig.new) (R.device_size rig.old) (R.device_size rig.new) }
     ensures cause { OnErr result (Rose (R.counts rig.old).flash.failed_reads (R.counts rig.new).flash.failed_reads) }
-    ensures size { R.device_size rig.new ≡ R.device_size rig.old }
 {
     let mut byte = [0];
     rig.read(Dev::Flash, 0, &mut byte)?;
     Ok(byte[0] == 1)
 }
 
-// Serves the script, and ends with the line of the status, where it has one.
+// Replays the script, and ends with the line of the status, where it has one.
 fn serve_plan<F: Fingerprint, R: Rig, S: Source>(
     alloc: Global,
     plan: Plan,
@@ -88,10 +93,12 @@ fn serve_plan<F: Fingerprint, R: Rig, S: Source>(
     ensures emit { result ≡ 6 → Rose (R.counts rig.old).failed_emits (R.counts rig.new).failed_emits }
     ensures device { result ≡ 7 → Rose (R.counts rig.old).flash.failed_writes (R.counts rig.new).flash.failed_writes }
     ensures memory { R.tells → result ≡ 4 → SaysAlone (stop_text Memory) (R.counts rig.old) (R.counts rig.new) (R.world rig.old) (R.world rig.new) }
-    ensures served { R.tells → S.tells → Serves (F.printed print.now) plan result (S.rest source.old) (R.world rig.old) (R.world rig.new) (R.counts rig.old) (R.counts rig.new) }
-    ensures disk { R.tells → (R.world rig.new).disk ≡ (R.world rig.old).disk }
-    ensures front { R.tells → front_of (R.world rig.new) ≡ front_of (R.world rig.old) }
+    ensures served { R.tells → S.tells → Replays (F.printed print.now) plan result (S.rest source.old) (R.world rig.old) (R.world rig.new) (R.counts rig.old) (R.counts rig.new) }
+    ensures others { R.tells → Scratched (R.world rig.old) (R.world rig.new) }
+    ensures time { R.tells → Elapses (R.clock rig.old) (R.clock rig.new) (KeepsDevices (R.world rig.old)) }
     ensures untouched { (R.counts rig.new).disk.writes ≡ (R.counts rig.old).disk.writes }
+    ensures taken { R.tells → S.tells → result ≤ 1 → IsTakenTo (replay_blocks plan (R.world rig.old)) (S.rest source.old) (S.rest source.new) }
+    ensures untaken { result ≡ 4 → source.new ≡ source.old }
     ensures idle { result ≡ 4 → IsIdle (R.counts rig.old) (R.counts rig.new) }
     ensures later { NeverFalls (R.counts rig.old) (R.counts rig.new) }
 {
@@ -119,10 +126,10 @@ fn status_of(why: Stop) -> u8
     }
 }
 
-// The cache at the start: nothing is listed.
-fn start<R: Rig>(alloc: Global, plan: Plan, rig: &R) -> Result<Cache, AllocError>
+// The scratch at the start: nothing is listed.
+fn start<R: Rig>(alloc: Global, plan: Plan, rig: &R) -> Result<Scratch, AllocError>
     requires { IsPlan plan }
-    ensures { IfOk result (λ cache. cache ≡ first_cache plan (R.device_size rig.now DiskDevice)) }
+    ensures { IfOk result (λ scratch. scratch ≡ first_scratch plan (R.device_size rig.now DiskDevice)) }
 {
     let count = rig.size(Dev::Disk) / u64::from(plan.block);
     let blocks = if count < MOST_BLOCKS {
@@ -130,10 +137,10 @@ fn start<R: Rig>(alloc: Global, plan: Plan, rig: &R) -> Result<Cache, AllocError
     } else {
         MOST_BLOCKS as u32
     };
-    Cache::new(alloc, plan.block, blocks, plan.acap, plan.bcap)
+    Scratch::new(alloc, plan.block, blocks, plan.acap, plan.bcap)
 }
 
-// Serves the script, or finds no memory for it.
+// Replays the script, or finds no memory for it.
 fn serve_script<F: Fingerprint, R: Rig, S: Source>(
     alloc: Global,
     plan: Plan,
@@ -143,36 +150,36 @@ fn serve_script<F: Fingerprint, R: Rig, S: Source>(
 ) -> Result<Result<bool, Halt>, AllocError>
     requires plan { IsPlan plan }
     requires large { small_for (Replay plan) (R.device_size rig.old) ≡ None }
-    ensures all { R.tells → S.tells → IfOk result (λ served. IfOk served (λ faulted. ServedAll (F.printed print.now) (replay_sizes plan (R.world rig.old)) (replay_start plan (R.world rig.old))
+    ensures all { R.tells → S.tells → IfOk result (λ served. IfOk served (λ faulted. AnsweredAll (F.printed print.now) (replay_sizes plan (R.world rig.old)) (replay_start plan (R.world rig.old))
         (replay_commands plan (R.world rig.old) (S.rest source.old)) faulted (R.world rig.old).said (R.world rig.new).said (R.counts rig.old) (R.counts rig.new))) }
-    ensures some { R.tells → S.tells → IfOk result (λ served. IfErr served (λ halt. ServedUpTo (F.printed print.now) (replay_sizes plan (R.world rig.old)) (replay_start plan (R.world rig.old))
+    ensures some { R.tells → S.tells → IfOk result (λ served. IfErr served (λ halt. AnsweredUpTo (F.printed print.now) (replay_sizes plan (R.world rig.old)) (replay_start plan (R.world rig.old))
         (replay_commands plan (R.world rig.old) (S.rest source.old)) halt (R.world rig.old).said (R.world rig.new).said (R.counts rig.old) (R.counts rig.new))) }
     ensures bounded { R.tells → S.tells → IfOk result (λ served. OnOk served (IsBounded plan (R.world rig.old) (S.rest source.old))) }
     ensures early { OnErr result (R.tells → R.world rig.new ≡ R.world rig.old) }
+    ensures taken { R.tells → S.tells → IfOk result (λ served. OnOk served (IsTakenTo (replay_blocks plan (R.world rig.old)) (S.rest source.old) (S.rest source.new))) }
+    ensures untaken { OnErr result (source.new ≡ source.old) }
     ensures early_counts { OnErr result (R.counts rig.new ≡ R.counts rig.old) }
-    ensures disk { R.tells → (R.world rig.new).disk ≡ (R.world rig.old).disk }
-    ensures front { R.tells → front_of (R.world rig.new) ≡ front_of (R.world rig.old) }
+    ensures others { R.tells → Scratched (R.world rig.old) (R.world rig.new) }
+    ensures time { R.tells → Elapses (R.clock rig.old) (R.clock rig.new) (KeepsDevices (R.world rig.old)) }
     ensures untouched { (R.counts rig.new).disk.writes ≡ (R.counts rig.old).disk.writes }
     ensures later { NeverFalls (R.counts rig.old) (R.counts rig.new) }
     ensures halt { IfOk result (λ served. IfErr served (λ halt. Halts (R.tells → S.tells → IsBounded plan (R.world rig.old) (S.rest source.old) → ⊥) halt
         (R.counts rig.old) (R.counts rig.new) (S.failures source.old) (S.failures source.new))) }
 {
     let size = plan.block as usize;
-    let mut cache = start(alloc, plan, rig)?;
+    let mut scratch = start(alloc, plan, rig)?;
     let mut reader = Reader::new(alloc)?;
-    let mut line = vec![in alloc; 0; LINE_ROOM]?;
     let mut block = vec![in alloc; 0; size]?;
-    let mut scratch = vec![in alloc; 0; size]?;
+    let mut other = vec![in alloc; 0; size]?;
     let mut text = vec![in alloc; 0; REPLY_ROOM]?;
     Ok(serve(
-        &mut cache,
+        &mut scratch,
         &mut reader,
         source,
         rig,
         print,
-        &mut line,
         &mut block,
-        &mut scratch,
+        &mut other,
         &mut text,
     ))
 }

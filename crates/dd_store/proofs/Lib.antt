@@ -2,6 +2,7 @@ pub mod Agreeing
 pub mod Altering
 pub mod Committing
 pub mod Flushing
+pub mod Kept
 pub mod Laying
 pub mod LayingOne
 pub mod LayingRow

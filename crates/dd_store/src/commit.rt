@@ -3,11 +3,10 @@ ghost use Rattle.std.specs.Prelude.{◌≡◌, ◌⊎◌, ◌+◌, ◌-◌, ◌*
 ghost use Rattle.dd_block.specs.declared.print.Fp.{Fp};
 ghost use Rattle.dd_rig.specs.declared.device.Dev.TheVariants.{Flash};
 ghost use Rattle.dd_rig.specs.Clock.{Elapses};
-ghost use Rattle.dd_rig.specs.Counts.{Frame, Rose};
+ghost use Rattle.dd_rig.specs.Counts.{Frame, Rose, Makes, up_to, nothing};
 ghost use Rattle.dd_rig.specs.Leaves.{LeavesShown};
 ghost use Rattle.dd_layout.specs.Layout.{region_at, flash_need};
 ghost use Rattle.dd_model.specs.State.{State};
-ghost use Rattle.dd_journal.specs.Gates.{WritesFlash};
 ghost use Rattle.dd_journal.specs.Regions.{snapshot_size};
 ghost use Rattle.dd_journal.specs.Sitting.{MayCommit, regions_size};
 ghost use Rattle.dd_store.specs.Keeping.{StoreView, IsStore, Kept};
@@ -54,9 +53,9 @@ pub fn commit_rows<R: Rig, L: Lists>(
     ensures outside { R.tells → LeavesShown Flash (region_at journal.old.geo 0) (regions_size journal.old.geo) (R.world rig.old) (R.world rig.new) }
     ensures cause { OnErr result (Rose (R.counts rig.old).flash.failed_writes (R.counts rig.new).flash.failed_writes) }
     ensures calls { 48 * length pending.now + 6 ≤ journal.old.room
-        → WritesFlash 4 (48 * length pending.now + 6) (R.counts rig.old) (R.counts rig.new) }
+        → Makes (up_to 0 4 (48 * length pending.now + 6)) nothing (R.counts rig.old) (R.counts rig.new) }
     ensures snapshot_calls { journal.old.room < 48 * length pending.now + 6
-        → WritesFlash 6 (3 + snapshot_size (L.listing lists.now).table) (R.counts rig.old) (R.counts rig.new) }
+        → Makes (up_to 0 6 (3 + snapshot_size (L.listing lists.now).table)) nothing (R.counts rig.old) (R.counts rig.new) }
     ensures frame { Frame (R.counts rig.old) (R.counts rig.new) (R.device_size rig.old) (R.device_size rig.new) }
 {
     journal.commit(rig, lists, count, pending)

@@ -1,11 +1,10 @@
 // The store.
-ghost use Rattle.std.specs.Prelude.{◌≡◌, ◌⊎◌, ◌+◌, ◌<◌, ◌≤◌, [], ℕ, List, length, IfOk, OnOk, OnErr, IfErr, IsTrue};
+ghost use Rattle.std.specs.Prelude.{◌≡◌, ◌⊎◌, ◌+◌, ◌*◌, ◌<◌, ◌≤◌, [], ℕ, List, length, IfOk, OnOk, OnErr, IfErr, IsTrue};
 ghost use Rattle.dd_block.specs.declared.print.Fp.{Fp};
 ghost use Rattle.dd_rig.specs.declared.device.Dev.TheVariants.{Flash, Disk};
 ghost use Rattle.dd_rig.specs.Clock.{Elapses};
 ghost use Rattle.dd_rig.specs.Counts.{Frame, Makes, up_to, nothing, plus, count_sync};
 ghost use Rattle.dd_model.specs.State.{State};
-ghost use Rattle.dd_journal.specs.Gates.{WritesFlash};
 ghost use Rattle.dd_journal.specs.Regions.{snapshot_size};
 ghost use Rattle.dd_store.specs.declared.fault.StoreFault.TheVariants.{FlashRead, DiskRead, FlashWrite, DiskWrite};
 ghost use Rattle.dd_store.specs.Keeping.{StoreView, IsStore, Kept};
@@ -114,7 +113,10 @@ impl<F: Fingerprint, L: Lists> Store<F, L> {
         ensures print { self.new.print ≡ self.old.print }
         ensures grows { GrowsLittle self.old.store self.new.store }
         ensures forgets { self.new.store.laid ≡ [] }
-        ensures disk { (R.counts rig.new).disk ≡ (R.counts rig.old).disk }
+        ensures calls { 48 * length self.old.store.pending + 6 ≤ self.old.store.journal.room
+            → Makes (up_to 0 4 (48 * length self.old.store.pending + 6)) nothing (R.counts rig.old) (R.counts rig.new) }
+        ensures snapshot_calls { self.old.store.journal.room < 48 * length self.old.store.pending + 6
+            → Makes (up_to 0 6 (3 + snapshot_size self.old.store.table)) nothing (R.counts rig.old) (R.counts rig.new) }
         ensures cause { IfErr result (λ fault. Faulted fault (R.counts rig.old) (R.counts rig.new)) }
         ensures frame { Frame (R.counts rig.old) (R.counts rig.new) (R.device_size rig.old) (R.device_size rig.new) }
     {

@@ -7,13 +7,15 @@ use Rattle.dd_script.specs.declared.reply.Stop.TheVariants as stop
 use Rattle.dd_script.specs.Text.{stop_text}
 use Rattle.dd_serve.specs.declared.halt.Halt.TheVariants.{Stopped}
 use Rattle.dd_serve.specs.Causes.{Halts}
-use Rattle.dd_serve.specs.Serving.{ServedAll, ServedUpTo}
+use Rattle.dd_serve.specs.Answering.{AnsweredAll, AnsweredUpTo}
 use Rattle.dd_serve.specs.Saying.{IsIdle, SaysAlone}
-use Rattle.dd_serve.specs.Run.{Serves, IsBounded, replay_sizes, replay_start, replay_commands, replay_blocks}
-use Rattle.dd_serve.proofs.Causes.{falls_self}
+use Rattle.dd_serve.specs.Replays.{Replays, IsBounded, replay_sizes, replay_start, replay_commands, replay_blocks}
+use Rattle.dd_rig.proofs.Falling.{falls_self}
+use Rattle.dd_serve.proofs.Costs.{asks_early}
+use Rattle.dd_serve.proofs.Moments.{end_moment}
 use Rattle.dd_serve.proofs.Going.{commands_some}
 use Rattle.dd_serve.proofs.Starts.{halts_by}
-use Rattle.dd_serve.proofs.Ending.{status_for, serves_all, serves_cut, stops_alone, stops_served, stops_early}
+use Rattle.dd_serve.proofs.Ending.{status_for, serves_all, serves_cut, stops_alone, stops_served, stops_early, stop_large}
 use Rattle.dd_serve.proofs.replay.serve_plan.Goals as goal
 
 byte_is : (b : Bool) → status_for b ≡ bool_byte b
@@ -41,8 +43,8 @@ returns-in_default-clause-served g c = λ t u.
     (subst (λ (k : Counts). SaysAlone (stop_text stop.Memory) k end (g.R.Rig.world c.serve_script.new.rig) new) counts (c.end.ensures.said t)) in
     let later = subst (λ (k : Counts). NeverFalls k end) counts c.end.ensures.later in
     let idle = subst (λ (k : Counts). IsIdle k end) counts c.end.ensures.idle in
-    subst (λ (n : ℕ). Serves print c.args.plan n script old new before end) (sym c.end.ensures.status)
-    (stops_alone print c.args.plan script old before stop.Memory old new before end (falls_self before) later idle (stops_early print c.args.plan script old before stop.Memory before (falls_self before) (omega arith) refl (λ e. omega arith) (commands_some (replay_blocks c.args.plan old) script)) said)
+    subst (λ (n : ℕ). Replays print c.args.plan n script old new before end) (sym c.end.ensures.status)
+    (stops_alone print c.args.plan script old before stop.Memory old new before end (falls_self before) later idle (stops_early print c.args.plan script old before stop.Memory before (falls_self before) (asks_early (replay_sizes c.args.plan old) before before (omega arith) (omega arith) (omega arith) (omega arith) (omega arith) (omega arith) (omega arith)) refl (λ e. omega arith) (commands_some (replay_blocks c.args.plan old) script)) said)
 
 pub returns-in-Ok-served-clause-served : goal.returns-in-Ok-served-clause-served
 returns-in-Ok-served-clause-served g c = λ t u.
@@ -53,10 +55,10 @@ returns-in-Ok-served-clause-served g c = λ t u.
     let end : Counts = g.R.Rig.counts c.serve_script.new.rig in
     let script : List ℕ = g.S.Source.rest c.args.source.now in
     let faulted : Bool = c.in-Ok-served.faulted in
-    let served : ServedAll print (replay_sizes c.args.plan old) (replay_start c.args.plan old) (replay_commands c.args.plan old script) faulted old.said new.said before end = rw c.in-Ok-served.is at (c.in-Ok.ensures.all t u) in
+    let served : AnsweredAll print (replay_sizes c.args.plan old) (replay_start c.args.plan old) (replay_commands c.args.plan old script) faulted old.said new.said before end = rw c.in-Ok-served.is at (c.in-Ok.ensures.all t u) in
     let bounded : IsBounded c.args.plan old script = rw c.in-Ok-served.is at (c.in-Ok.ensures.bounded t u) in
     let all = serves_all print c.args.plan script old before faulted new end served bounded in
-    subst (λ (n : ℕ). Serves print c.args.plan n script old new before end) (byte_is faulted ∙ sym c.from.ensures) all
+    subst (λ (n : ℕ). Replays print c.args.plan n script old new before end) (byte_is faulted ∙ sym c.from.ensures) all
 
 pub returns-in-Output-clause-served : goal.returns-in-Output-clause-served
 returns-in-Output-clause-served g c = λ t u.
@@ -84,7 +86,13 @@ returns-in-Stopped-clause-served g c = λ t u.
     let Q : Type 0 = IsBounded c.args.plan old script → ⊥ in
     let halts : Halts P (Stopped why) before between (failures c.args.source.now) (failures c.serve_script.new.source) = rw c.in-Stopped.is at (rw c.in-Err.is at c.in-Ok.ensures.halt) in
     let halted : Halts Q (Stopped why) before between (failures c.args.source.now) (failures c.serve_script.new.source) = halts_by P Q (λ long. long t u) (Stopped why) before between _ _ halts in
-    let served : ServedUpTo print (replay_sizes c.args.plan old) (replay_start c.args.plan old) (replay_commands c.args.plan old script) (Stopped why) old.said middle.said before between = rw c.in-Stopped.is at (rw c.in-Err.is at (c.in-Ok.ensures.some t u)) in
-    subst (λ (n : ℕ). Serves print c.args.plan n script old new before end) (sym (c.end-in-Stopped.ensures.status ∙ c.status_of.ensures))
+    let served : AnsweredUpTo print (replay_sizes c.args.plan old) (replay_start c.args.plan old) (replay_commands c.args.plan old script) (Stopped why) old.said middle.said before between = rw c.in-Stopped.is at (rw c.in-Err.is at (c.in-Ok.ensures.some t u)) in
+    subst (λ (n : ℕ). Replays print c.args.plan n script old new before end) (sym (c.end-in-Stopped.ensures.status ∙ c.status_of.ensures))
     (stops_alone print c.args.plan script old before why middle new between end c.serve_script.ensures.later c.end-in-Stopped.ensures.later c.end-in-Stopped.ensures.idle
     (stops_served print c.args.plan script old before why middle between _ _ served halted) (c.end-in-Stopped.ensures.said t))
+
+pub returns-in-Stopped-clause-time : goal.returns-in-Stopped-clause-time
+returns-in-Stopped-clause-time g c = λ t. end_moment _ _ _ _ (g.R.Rig.world c.serve_script.new.rig) (c.serve_script.ensures.time t) (c.serve_script.ensures.others t) (c.end-in-Stopped.ensures.time t)
+
+pub returns-in-Stopped-clause-taken : goal.returns-in-Stopped-clause-taken
+returns-in-Stopped-clause-taken g c = λ t u small. absurd (omega (arith, small, stop_large c.in-Stopped.why, c.end-in-Stopped.ensures.status, c.status_of.ensures))

@@ -5,7 +5,7 @@ use Rattle.dd_rig.specs.declared.device.Dev.TheVariants.{Flash, Disk}
 use Rattle.dd_rig.specs.Clock.{Elapses}
 use Rattle.dd_rig.proofs.Moments.{widens}
 use Rattle.dd_record.specs.Table.{Table}
-use Rattle.dd_journal.specs.Gates.{WritesFlash}
+use Rattle.dd_rig.specs.Counts.{Makes, up_to, nothing}
 use Rattle.dd_journal.specs.Regions.{table_of, snapshot_size}
 use Rattle.dd_journal.specs.Sitting.{Leads, Sits, MayCommit, IsEither}
 use Rattle.dd_store.specs.Committing.{with_parts}
@@ -71,7 +71,7 @@ pub returns-clause-snapshot_calls : goal.returns-clause-snapshot_calls
 returns-clause-snapshot_calls g c = λ full.
     let lists = c.args.lists.now in
     let same : table_of (g.L.Rows.b_rows lists) (g.L.Rows.a_rows lists) ≡ (g.L.Lists.listing lists).table = λ i. record { b = g.met.L.Lists.same_b lists i; a = g.met.L.Lists.same_a lists i } in
-    subst (λ (t : Table). WritesFlash 6 (3 + snapshot_size t) (g.R.Rig.counts c.args.rig.now) (g.R.Rig.counts c.commit.new.rig)) same (c.commit.ensures.snapshot_calls full)
+    subst (λ (t : Table). Makes (up_to 0 6 (3 + snapshot_size t)) nothing (g.R.Rig.counts c.args.rig.now) (g.R.Rig.counts c.commit.new.rig)) same (c.commit.ensures.snapshot_calls full)
 
 pub returns-clause-unsaid : goal.returns-clause-unsaid
 returns-clause-unsaid g c = λ told. unsaid_write Flash _ _ (g.R.Rig.world c.args.rig.now) (c.commit.ensures.time told)

@@ -1,6 +1,0 @@
-use Rattle.std.proofs.Common.{◌+◌, ◌*◌, length, arith}
-use Rattle.dd_serve.proofs.Slots.{wrote_only_flash}
-use Rattle.dd_serve.proofs.cache.save.Goals as goal
-
-pub returns-clause-others : goal.returns-clause-others
-returns-clause-others g c = λ told. wrote_only_flash (64 + c.from.result * length c.args.from.now) (length c.args.from.now) _ _ (omega arith) (c.write.ensures.any told)

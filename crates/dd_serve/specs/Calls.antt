@@ -1,0 +1,93 @@
+-- How often a replay asks its devices.
+use Rattle.std.specs.Prelude.{◌≤◌, ℕ, ◌+◌, ◌*◌, ◌||◌, Bool, List, [], ◌∷◌, take, codes, count_by, cond, nat_le}
+use Rattle.std.specs.Str.{bytes_eq}
+use Rattle.dd_rig.specs.declared.device.Dev.TheVariants as dev
+use Rattle.dd_rig.specs.declared.tallies.Counts.{Counts}
+use Rattle.dd_rig.specs.Counts.{Quota, Makes, plus, up_to}
+use Rattle.dd_model.specs.State.{Sizes}
+use Rattle.dd_model.specs.declared.kind.Kind.{Kind}
+use Rattle.dd_model.specs.declared.kind.Kind.TheVariants.{Hit, Join, Miss, Dup, New}
+use Rattle.dd_script.specs.Answers.{faults_in}
+use Rattle.dd_serve.specs.declared.scratch.ScratchFault.{ScratchFault}
+use Rattle.dd_serve.specs.declared.scratch.ScratchFault.TheVariants.{FlashRead, DiskRead, FlashWrite}
+
+-- the flash was read so many times or more, and no more calls were made than these
+abbrev pub Asks : (slots : ℕ) (flash disk : Quota) → Counts → Counts → Type 0
+Asks slots flash disk before after = (plus before.flash.reads slots ≤ after.flash.reads) × Makes flash disk before after
+
+-- a hit reads a slot of the flash
+abbrev pub slots_for : Kind → ℕ
+slots_for Hit = 1
+slots_for Join = 0
+slots_for Miss = 0
+slots_for Dup = 0
+slots_for New = 0
+
+-- a join and a miss read a block of the disk, and look for it in the slots
+abbrev pub looks_for : Kind → ℕ
+looks_for Hit = 0
+looks_for Join = 1
+looks_for Miss = 1
+looks_for Dup = 0
+looks_for New = 0
+
+-- a miss writes a slot
+abbrev pub writes_for : Kind → ℕ
+writes_for Hit = 0
+writes_for Join = 0
+writes_for Miss = 1
+writes_for Dup = 0
+writes_for New = 0
+
+-- So many hits, looks and misses: a hit reads one slot, a look reads the disk once and each slot at most once, and a miss writes one
+-- slot.
+abbrev pub AsksFor : (block bcap : ℕ) (hits looks misses : ℕ) → Counts → Counts → Type 0
+AsksFor block bcap hits looks misses before after = Asks hits (up_to (hits + bcap * looks) misses (block * misses)) (up_to looks 0 0) before after
+
+-- only a write that fails was begun
+abbrev pub writes_until : ScratchFault → ℕ
+writes_until FlashRead = 0
+writes_until DiskRead = 0
+writes_until FlashWrite = 1
+
+abbrev pub is_hit : List ℕ → Bool
+is_hit line = bytes_eq (take 4 line) (codes "hit ")
+
+abbrev pub is_load : List ℕ → Bool
+is_load line = bytes_eq (take 5 line) (codes "join ") || bytes_eq (take 5 line) (codes "miss ")
+
+abbrev pub is_miss : List ℕ → Bool
+is_miss line = bytes_eq (take 5 line) (codes "miss ")
+
+-- how many of these lines are hits
+abbrev pub hits_in : List (List ℕ) → ℕ
+hits_in lines = count_by is_hit lines
+
+-- how many are joins and misses
+abbrev pub loads_in : List (List ℕ) → ℕ
+loads_in lines = count_by is_load lines
+
+-- how many are misses
+abbrev pub misses_in : List (List ℕ) → ℕ
+misses_in lines = count_by is_miss lines
+
+-- how many of these lines took a look: joins, misses and faults
+abbrev pub looks_in : List (List ℕ) → ℕ
+looks_in lines = loads_in lines + (faults_in dev.Flash lines + faults_in dev.Disk lines)
+
+-- the calls of a replay that said these lines, where so many commands more were begun, each as a hit, a look and a miss
+abbrev pub AsksForLines : Sizes → List (List ℕ) → (more : ℕ) → Counts → Counts → Type 0
+AsksForLines sizes lines more before after =
+    Asks (hits_in lines) (up_to (hits_in lines + more + sizes.bcap * (looks_in lines + more)) (misses_in lines + more) (sizes.block * (misses_in lines + more))) (up_to (looks_in lines + more) 0 0) before after
+
+-- the calls for one line
+abbrev pub AsksForLine : Sizes → List ℕ → Counts → Counts → Type 0
+AsksForLine sizes line before after = AsksFor sizes.block sizes.bcap (hits_in (line ∷ [])) (looks_in (line ∷ [])) (misses_in (line ∷ [])) before after
+
+-- behind the look at byte 0
+abbrev pub looked : Counts → Counts
+looked counts = record counts { flash = record counts.flash { reads = plus counts.flash.reads 1 } }
+
+-- with 5 to 8 a command may have been begun that has no line
+abbrev pub unfinished : ℕ → ℕ
+unfinished status = cond (nat_le 5 status) 1 0
