@@ -11,8 +11,10 @@ pub mod MarkingAll
 pub mod Moments
 pub mod Opening
 pub mod Parts
+pub mod Referred
 pub mod Referring
 pub mod Saving
 pub mod Sole
 pub mod Sure
 pub mod Uses
+pub mod Using

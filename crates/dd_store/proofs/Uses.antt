@@ -60,10 +60,16 @@ used_stays : (slot : ℕ) (row : Option BRow) (uses : List Usage) → is_spare s
 used_stays slot None uses h = h
 used_stays slot (Some row) uses h = other_use uses row.slot slot Used refl h
 
-let_go_stays : (slot : ℕ) (cut : Option BRow) (uses : List Usage) → is_spare slot uses ≡ false → is_spare slot (let_go cut uses) ≡ false
+pub let_go_stays : (slot : ℕ) (cut : Option BRow) (uses : List Usage) → is_spare slot uses ≡ false → is_spare slot (let_go cut uses) ≡ false
 let_go_stays slot None uses h = h
 let_go_stays slot (Some cut) uses h = other_use uses cut.slot slot Waiting refl h
 
 -- a reference frees no slot
 pub fewer_free : (slot : ℕ) (cut row : Option BRow) (uses : List Usage) → is_spare slot uses ≡ false → is_spare slot (let_go cut (used_by row uses)) ≡ false
 fewer_free slot cut row uses h = let_go_stays slot cut (used_by row uses) (used_stays slot row uses h)
+
+-- a slot that is used isn't free
+pub here_kept : (uses : List Usage) (slot : ℕ) → is_spare slot (slice_set uses slot Used) ≡ false
+here_kept [] slot = refl
+here_kept (u ∷ uses) zero = refl
+here_kept (u ∷ uses) (suc slot) = here_kept uses slot
