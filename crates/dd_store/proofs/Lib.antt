@@ -17,4 +17,5 @@ pub mod Saving
 pub mod Sole
 pub mod Sure
 pub mod Uses
+pub mod UsedSlots
 pub mod Using

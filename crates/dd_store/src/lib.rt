@@ -14,6 +14,7 @@ mod lay;
 mod mark;
 mod place;
 mod store;
+mod used;
 
 pub use commit::commit_rows;
 pub use fault::StoreFault;

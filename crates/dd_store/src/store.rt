@@ -1,27 +1,34 @@
 // The store.
-ghost use Rattle.std.specs.Prelude.{◌≡◌, ◌⊎◌, ◌+◌, ◌*◌, ◌<◌, ◌≤◌, [], ℕ, List, length, IfOk, OnOk, OnErr, IfErr, IsTrue};
+ghost use Rattle.std.specs.Prelude.{◌≡◌, ◌⊎◌, ◌+◌, ◌*◌, ◌<◌, ◌≤◌, [], ℕ, List, length, true, IfOk, OnOk, OnErr, IfErr, IsTrue};
 ghost use Rattle.dd_block.specs.declared.print.Fp.{Fp};
 ghost use Rattle.dd_rig.specs.declared.device.Dev.TheVariants.{Flash, Disk};
 ghost use Rattle.dd_rig.specs.Clock.{Elapses};
 ghost use Rattle.dd_rig.specs.Counts.{Frame, Makes, up_to, nothing, plus, count_sync};
 ghost use Rattle.dd_model.specs.State.{State};
-ghost use Rattle.dd_journal.specs.Regions.{snapshot_size};
+ghost use Rattle.dd_layout.specs.Layout.{disk_need};
+ghost use Rattle.dd_journal.specs.Regions.{AreRows, snapshot_size};
+ghost use Rattle.dd_journal.specs.Sitting.{Sits, IsStable};
+ghost use Rattle.dd_store.specs.Meaning.{Means};
 ghost use Rattle.dd_store.specs.declared.fault.StoreFault.TheVariants.{FlashRead, DiskRead, FlashWrite, DiskWrite};
 ghost use Rattle.dd_store.specs.Keeping.{StoreView, IsStore, Kept};
 ghost use Rattle.dd_store.specs.Committing.{committed_store};
 ghost use Rattle.dd_store.specs.Laying.{MayLay, laid_store, marked_store};
-ghost use Rattle.dd_store.specs.Serving.{IsReady, MayCall, Serves, StaysUp, Faulted, GrowsLittle, IsLayFault, LaysOn, unlaid, downed};
+ghost use Rattle.dd_store.specs.Saving.{AreUsesOf};
+ghost use Rattle.dd_store.specs.Serving.{store_of, HasLimits, IsReady, MayCall, Serves, StaysUp, Faulted, GrowsLittle, IsLayFault, LaysOn, unlaid, downed};
 
 use crate::StoreFault;
 use crate::commit::commit_rows;
 use crate::lay::{lay_row, sync_laid};
 use crate::mark::mark_all;
+use crate::used::used_slots;
 use dd_block::{Fingerprint, Geometry};
 use dd_journal::Journal;
+use dd_layout::slot_at;
 use dd_model::Lists;
 use dd_record::Rec;
 use dd_rig::Rig;
 use dd_slots::Slots;
+use std::alloc::{AllocError, Global};
 use std::marker::Model;
 
 /// A cache over two devices: the array and both recency lists, of which what is committed survives a
@@ -61,6 +68,54 @@ impl<F: Fingerprint, L: Lists> Model for Store<F, L> {
 }
 
 impl<F: Fingerprint, L: Lists> Store<F, L> {
+    /// A store over what a journal committed: these lists, and so many references. It holds what the
+    /// devices stand for, where both are stable, the journal sits on the rig and the committed rows are
+    /// the lists'. It takes memory for a block, for the slots, and for `group` records.
+    pub fn new<R: Rig>(
+        alloc: Global,
+        rig: &R,
+        geo: Geometry,
+        print: F,
+        lists: L,
+        journal: Journal,
+        count: u64,
+    ) -> Result<Self, AllocError>
+        requires limits { HasLimits geo (L.listing lists) }
+        requires rows { AreRows geo 2 (L.listing lists).table }
+        requires up { IsTrue journal.is_up }
+        requires geometry { journal.geo ≡ geo }
+        requires version { journal.version ≡ 2 }
+        requires count { count ≡ journal.committed }
+        ensures print { IfOk result (λ new. new.print ≡ print) }
+        ensures store { IfOk result (λ new. new.store ≡ store_of true journal (L.listing lists) count [] new.store.uses []) }
+        ensures uses { IfOk result (λ new. AreUsesOf geo (L.listing lists).table.b new.store.uses) }
+        ensures kept { R.tells → IfOk result (λ new. (s : State) → IsStable (R.world rig.now).flash → IsStable (R.world rig.now).disk → disk_need geo ≤ R.device_size rig.now Disk
+            → Sits journal (R.world rig.now) (L.listing lists).table
+            → Means (F.printed print) geo (R.world rig.now).flash.shown (R.world rig.now).disk.shown (L.listing lists).table count s
+            → Kept (F.printed print) new.store (R.world rig.now) s s) }
+    {
+        let used = used_slots(alloc, &lists, geo.slots())?;
+        let slots = Slots::new(
+            alloc,
+            slot_at(geo, 0),
+            geo.block,
+            geo.slots(),
+            used.as_slice(),
+        )?;
+        Ok(Store {
+            up: true,
+            geo,
+            print,
+            journal,
+            lists,
+            slots,
+            count,
+            pending: Vec::with_capacity(alloc, geo.group as usize)?,
+            laid: Vec::with_capacity(alloc, geo.group as usize)?,
+            block: vec![in alloc; 0; geo.block as usize]?,
+        })
+    }
+
     /// Whether the store may be called. It is down for ever after a write or a sync that failed.
     pub fn is_up(&self) -> bool
         ensures { result ≡ self.now.store.is_up }
