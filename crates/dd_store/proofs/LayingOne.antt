@@ -48,7 +48,7 @@ laid_one_is store address is may few = record {
 }
 
 -- the row of an address
-found_address : (address : ℕ) (rows : List ARow) (row : ARow) → a_row address rows ≡ Some row → row.address ≡ address
+pub found_address : (address : ℕ) (rows : List ARow) (row : ARow) → a_row address rows ≡ Some row → row.address ≡ address
 found_address address [] row is = absurd (cc is)
 found_address address (r ∷ rows) row is = by_test (λ e. found_address address rows row e) (r.address == address) refl is
   where

@@ -6,6 +6,7 @@ pub mod Kept
 pub mod Laying
 pub mod LayingOne
 pub mod LayingRow
+pub mod Located
 pub mod Marking
 pub mod MarkingAll
 pub mod Moments
@@ -17,5 +18,6 @@ pub mod Saving
 pub mod Sole
 pub mod Sure
 pub mod Uses
+pub mod Telling
 pub mod UsedSlots
 pub mod Using
