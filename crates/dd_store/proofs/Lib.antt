@@ -15,6 +15,7 @@ pub mod Parts
 pub mod Referred
 pub mod Referring
 pub mod Saving
+pub mod Serves
 pub mod Sole
 pub mod Sure
 pub mod Uses

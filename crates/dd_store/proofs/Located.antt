@@ -79,9 +79,7 @@ module _ (print : List ℕ → Fp) (is_up : Bool) (journal : JournalView) (lists
   refers_hit slot link may =
       let known = known_there slot (content s.array address) (b_row slot lists.table.b) refl (link_given lists address slot listing link) (slot_linked slot link) in
       record {
-        touches = hit_touch lists address slot listing link;
-        raised = refl;
-        may = may_be (touch_by address (given.Known slot) false lists) may;
+        fits = record { touches = hit_touch lists address slot listing link; raised = refl; may = may_be (touch_by address (given.Known slot) false lists) may };
         below = below;
         long = content_long;
         there = known.0;
@@ -92,9 +90,7 @@ module _ (print : List ℕ → Fp) (is_up : Bool) (journal : JournalView) (lists
   pub refers_hit_zero : link_at address lists.table.a ≡ links.Zero → may_refer (touch_by address given.Zero false lists) lists ≡ true
       → Refers print store world.flash.shown s (Hit address) (touch_by address given.Zero false lists) (content s.array address)
   refers_hit_zero link may = record {
-    touches = hit_zero_touch lists address link;
-    raised = refl;
-    may = may_be (touch_by address given.Zero false lists) may;
+    fits = record { touches = hit_zero_touch lists address link; raised = refl; may = may_be (touch_by address given.Zero false lists) may };
     below = below;
     long = content_long;
     there = zero_linked link;
@@ -110,9 +106,7 @@ module _ (print : List ℕ → Fp) (is_up : Bool) (journal : JournalView) (lists
     refers_listed slot is_given is may =
         let known = known_there slot block (b_row slot lists.table.b) refl is_given is in
         record {
-          touches = link_touch lists address slot dirty is_given anew;
-          raised = refl;
-          may = may_be (touch_by address (given.Known slot) dirty lists) may;
+          fits = record { touches = link_touch lists address slot dirty is_given anew; raised = refl; may = may_be (touch_by address (given.Known slot) dirty lists) may };
           below = below;
           long = long;
           there = known.0;
@@ -125,9 +119,7 @@ module _ (print : List ℕ → Fp) (is_up : Bool) (journal : JournalView) (lists
         → may_refer (touch_by address (given.Fresh row) dirty lists) lists ≡ true
         → Refers print store world.flash.shown s (Store address row.slot row.fp dirty) (touch_by address (given.Fresh row) dirty lists) block
     refers_fresh row is_given is printed some unknown may = record {
-      touches = store_touch lists address row dirty is_given anew;
-      raised = refl;
-      may = may_be (touch_by address (given.Fresh row) dirty lists) may;
+      fits = record { touches = store_touch lists address row dirty is_given anew; raised = refl; may = may_be (touch_by address (given.Fresh row) dirty lists) may };
       below = below;
       long = long;
       there = (is, printed, some);
@@ -139,9 +131,7 @@ module _ (print : List ℕ → Fp) (is_up : Bool) (journal : JournalView) (lists
     pub refers_zeros : is_zero_block block ≡ true → may_refer (touch_by address given.Zero dirty lists) lists ≡ true
         → Refers print store world.flash.shown s (Zero address dirty) (touch_by address given.Zero dirty lists) block
     refers_zeros zeros may = record {
-      touches = zero_touch lists address dirty anew;
-      raised = refl;
-      may = may_be (touch_by address given.Zero dirty lists) may;
+      fits = record { touches = zero_touch lists address dirty anew; raised = refl; may = may_be (touch_by address given.Zero dirty lists) may };
       below = below;
       long = long;
       there = zeros;

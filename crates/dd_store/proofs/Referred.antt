@@ -6,7 +6,6 @@ use Rattle.std.proofs.lemmas.List.{length-set}
 use Rattle.std.proofs.lemmas.List.Sums.{sum_by-append}
 use Rattle.dd_block.specs.declared.print.Fp.{Fp}
 use Rattle.dd_block.specs.declared.geometry.Geometry.{Geometry}
-use Rattle.dd_rig.specs.World.{World}
 use Rattle.dd_slots.specs.declared.usage.Usage.{Usage}
 use Rattle.dd_slots.specs.declared.usage.Usage.TheVariants.{Used}
 use Rattle.dd_record.specs.declared.row.BRow.{BRow}
@@ -16,10 +15,9 @@ use Rattle.dd_record.specs.Spelling.{IsB, IsRec}
 use Rattle.dd_record.specs.Table.{Table, has_slot, b_row, is_link, link_at, is_dirty_at}
 use Rattle.dd_record.specs.Replay.{Touch, touched, touch_of, b_after, cut_block, raises, replay}
 use Rattle.dd_record.proofs.Replayed.{AreListed, replay_listed}
-use Rattle.dd_model.specs.State.{State}
 use Rattle.dd_model.proofs.Dirty.{dirtied_ones}
-use Rattle.dd_store.specs.Keeping.{StoreView, IsStore, Kept, NamesKept, is_spare}
-use Rattle.dd_store.specs.Referring.{Refers, used_by, let_go, referred_store}
+use Rattle.dd_store.specs.Keeping.{StoreView, IsStore, NamesKept, is_spare}
+use Rattle.dd_store.specs.Referring.{RecordFits, used_by, let_go, referred_store}
 use Rattle.dd_store.proofs.Referring.{after_is, dirty_then}
 use Rattle.dd_store.proofs.Uses.{fewer_free, let_go_stays, listed_kept, here_kept}
 use Rattle.dd_store.proofs.Using.{used_after}
@@ -88,8 +86,7 @@ let_go_long (Some cut) uses = length-set uses cut.slot _
 raised_more : (recs : List Rec) (rec : Rec) → raises rec ≡ true → count_by raises (recs ++ rec ∷ []) ≡ count_by raises recs + 1
 raised_more recs rec up = sum_by-append (λ (r : Rec). cond (raises r) 1 0) recs (rec ∷ []) ∙ ap (λ (b : Bool). count_by raises recs + (0 + cond b 1 0)) up
 
-module _ (print : List ℕ → Fp) (store : StoreView) (world : World) (c s : State) (is : IsStore store) (kept : Kept print store world c s)
-    (rec : Rec) (touch : Touch) (block : List ℕ) (refers : Refers print store world.flash.shown s rec touch block)
+module _ (store : StoreView) (is : IsStore store) (rec : Rec) (touch : Touch) (fits : RecordFits store rec touch)
     (right : IsRec store.journal.geo store.journal.version rec) (room : length store.pending < store.journal.geo.group) where
   abbrev after : Table
   after = touched store.journal.geo.acap store.journal.geo.bcap touch store.table
@@ -97,7 +94,7 @@ module _ (print : List ℕ → Fp) (store : StoreView) (world : World) (c s : St
   listed : AreListed store.journal.geo store.journal.version after
   listed = replay_listed store.journal.geo store.journal.version (rec ∷ []) store.table after (right, tt)
       (record { fit = is.fit; b_rows = is.rows.b_rows; a_rows = is.rows.a_rows; len_b = is.rows.len_b; len_a = is.rows.len_a })
-      (ap (option_and_then (replay store.journal.geo.acap store.journal.geo.bcap [])) (after_is print store world c s is kept rec touch block refers))
+      (ap (option_and_then (replay store.journal.geo.acap store.journal.geo.bcap [])) (after_is store is rec touch fits))
 
   abbrev cut : Option BRow
   cut = cut_block store.journal.geo.bcap touch.block store.table.b
@@ -111,12 +108,12 @@ module _ (print : List ℕ → Fp) (store : StoreView) (world : World) (c s : St
     fit = listed.fit;
     few = omega (arith, length-append store.pending (rec ∷ []), room);
     records = one_behind (IsRec store.journal.geo store.journal.version) store.pending rec is.records right;
-    counted = ap suc is.counted ∙ omega (arith, raised_more store.pending rec refers.raised);
+    counted = ap suc is.counted ∙ omega (arith, raised_more store.pending rec fits.raised);
     sized = let_go_long cut (used_by touch.block store.uses) ∙ used_long touch.block store.uses ∙ is.sized;
     used = used_after store.journal.geo.bcap touch.block store.table.b store.uses is.rows.len_b is.fit.slots (slot_below store.journal.geo touch.block store.table.b store.uses is.sized listed.b_rows) is.used;
-    named = one_behind (NamesKept (let_go cut (used_by touch.block store.uses))) store.pending rec (all_named cut touch.block store.uses store.pending is.named) (named_one store is touch cut rec refers.touches);
+    named = one_behind (NamesKept (let_go cut (used_by touch.block store.uses))) store.pending rec (all_named cut touch.block store.uses store.pending is.named) (named_one store is touch cut rec fits.touches);
     dirty = dirtied_ones (λ address. is_dirty_at address store.table.a) (λ address. is_dirty_at address after.a) touch.address touch.dirty
-        (dirty_then print store world c s is kept rec touch block refers) store.dirty is.dirty;
+        (dirty_then store is rec touch fits) store.dirty is.dirty;
     laid = λ address never. absurd (cc never);
     laid_once = tt;
     few_laid = omega arith;

@@ -22,8 +22,8 @@ use Rattle.dd_model.proofs.Slots.{held_all, listed_alone, HoldsAlone}
 use Rattle.dd_model.proofs.RecordLaws.{HasBlock, MayMove, shows-touched, links-fit}
 use Rattle.dd_model.proofs.Dirty.{dirty_touched}
 use Rattle.dd_store.specs.Meaning.{Means, sizes_of}
-use Rattle.dd_store.specs.Keeping.{StoreView, IsStore, Kept}
-use Rattle.dd_store.specs.Referring.{IsThere, IsPlaced, Refers, referred_store}
+use Rattle.dd_store.specs.Keeping.{StoreView, IsStore, Holds, Kept}
+use Rattle.dd_store.specs.Referring.{IsThere, IsPlaced, RecordFits, Refers, referred_store}
 use Rattle.dd_store.proofs.Uses.{fewer_free}
 
 -- a record that references, where the cut is allowed
@@ -88,16 +88,13 @@ pub has_block : (print : List ℕ → Fp) (held : ℕ → List ℕ) (row : Optio
 has_block print held None block there = there
 has_block print held (Some row) block there = there.0
 
-module _ (print : List ℕ → Fp) (store : StoreView) (world : World) (c s : State) (is : IsStore store) (kept : Kept print store world c s)
-    (rec : Rec) (touch : Touch) (block : List ℕ) (refers : Refers print store world.flash.shown s rec touch block) where
-  abbrev held : ℕ → List ℕ
-  held = slot_block store.journal.geo world.flash.shown
-
+-- what becomes of the rows
+module _ (store : StoreView) (is : IsStore store) (rec : Rec) (touch : Touch) (fits : RecordFits store rec touch) where
   abbrev after : Table
   after = touched store.journal.geo.acap store.journal.geo.bcap touch store.table
 
-  may : MayMove print held store.table.b touch.block
-  may = may_move print held s store.table kept.holds.means.lists.blocks kept.holds.means.lists.distinct touch.block block refers.there refers.placed
+  pub after_is : after_rec store.journal.geo.acap store.journal.geo.bcap rec store.table ≡ Some after
+  after_is = after_touch store.journal.geo.acap store.journal.geo.bcap rec store.table touch fits.raised fits.touches fits.may
 
   short : length (a_moved touch store.table.a) ≤ store.journal.geo.acap + 1
   short = omega (arith, is.rows.len_a, filter_short (λ (row : ARow). not (row.address == touch.address)) store.table.a)
@@ -105,24 +102,35 @@ module _ (print : List ℕ → Fp) (store : StoreView) (world : World) (c s : St
   -- which addresses are dirty then
   pub dirty_then : (address : ℕ) → is_dirty_at address after.a ≡ (if touch.address == address then (touch.dirty || is_dirty_at touch.address store.table.a) else is_dirty_at address store.table.a)
   dirty_then address = dirty_touched store.journal.geo.acap touch store.table.a (cut_block store.journal.geo.bcap touch.block store.table.b) short
-      (and_parts (is_clean_cut (cut_address store.journal.geo.acap touch store.table.a)) (is_free_cut touch.address store.table.a (cut_block store.journal.geo.bcap touch.block store.table.b)) refers.may).0 address
+      (and_parts (is_clean_cut (cut_address store.journal.geo.acap touch store.table.a)) (is_free_cut touch.address store.table.a (cut_block store.journal.geo.bcap touch.block store.table.b)) fits.may).0 address
 
   -- what isn't dirty behind the step wasn't before it
-  clean_was : (address : ℕ) → is_dirty_at address after.a ≡ false → is_dirty_at address store.table.a ≡ false
+  pub clean_was : (address : ℕ) → is_dirty_at address after.a ≡ false → is_dirty_at address store.table.a ≡ false
   clean_was address clean = by_address (touch.address == address) refl (sym (dirty_then address) ∙ clean)
     where
       by_address : (b : Bool) → (touch.address == address) ≡ b → (if b then (touch.dirty || is_dirty_at touch.address store.table.a) else is_dirty_at address store.table.a) ≡ false → is_dirty_at address store.table.a ≡ false
       by_address true here e = ap (λ (n : ℕ). is_dirty_at n store.table.a) (sym (eqb-true touch.address address here)) ∙ (or_false touch.dirty (is_dirty_at touch.address store.table.a) e).1
       by_address false other e = e
 
-  inside : touch.address < length s.array
-  inside = omega (arith, refers.below, kept.holds.means.array_length)
+module _ (print : List ℕ → Fp) (store : StoreView) (world : World) (s : State) (is : IsStore store) (holds : Holds print store world s)
+    (rec : Rec) (touch : Touch) (block : List ℕ) (refers : Refers print store world.flash.shown s rec touch block) where
+  abbrev held : ℕ → List ℕ
+  held = slot_block store.journal.geo world.flash.shown
 
-  clean_after : (address : ℕ) → address < store.journal.geo.blocks → is_dirty_at address after.a ≡ false → content (slice_set s.array touch.address block) address ≡ disk_block store.journal.geo world.disk.shown address
-  clean_after address below clean = by_address (touch.address == address) refl (sym (dirty_then address) ∙ clean)
+  abbrev rows_then : Table
+  rows_then = touched store.journal.geo.acap store.journal.geo.bcap touch store.table
+
+  may : MayMove print held store.table.b touch.block
+  may = may_move print held s store.table holds.means.lists.blocks holds.means.lists.distinct touch.block block refers.there refers.placed
+
+  inside : touch.address < length s.array
+  inside = omega (arith, refers.below, holds.means.array_length)
+
+  clean_after : (address : ℕ) → address < store.journal.geo.blocks → is_dirty_at address rows_then.a ≡ false → content (slice_set s.array touch.address block) address ≡ disk_block store.journal.geo world.disk.shown address
+  clean_after address below clean = by_address (touch.address == address) refl (sym (dirty_then store is rec touch refers.fits address) ∙ clean)
     where
       was : content s.array address ≡ disk_block store.journal.geo world.disk.shown address
-      was = kept.holds.means.clean address below (clean_was address clean)
+      was = holds.means.clean address below (clean_was store is rec touch refers.fits address clean)
 
       by_address : (b : Bool) → (touch.address == address) ≡ b → (if b then (touch.dirty || is_dirty_at touch.address store.table.a) else is_dirty_at address store.table.a) ≡ false
           → content (slice_set s.array touch.address block) address ≡ disk_block store.journal.geo world.disk.shown address
@@ -133,31 +141,32 @@ module _ (print : List ℕ → Fp) (store : StoreView) (world : World) (c s : St
       by_address false other e =
           get_or-set_other s.array touch.address address block [] (λ (same : address ≡ touch.address). absurd (false≢true (sym other ∙ eq-eqb touch.address address (sym same)))) ∙ was
 
-  means_after : Means print store.journal.geo world.flash.shown world.disk.shown after (suc store.count) (reference (sizes_of store.journal.geo) s touch.address block)
+  means_after : Means print store.journal.geo world.flash.shown world.disk.shown rows_then (suc store.count) (reference (sizes_of store.journal.geo) s touch.address block)
   means_after = record {
-    array_length = length-set s.array touch.address block ∙ kept.holds.means.array_length;
-    array_blocks = all_set (λ other. length other ≡ store.journal.geo.block) s.array touch.address block refers.long kept.holds.means.array_blocks;
-    lists = shows-touched print held (sizes_of store.journal.geo) s store.table store.count kept.holds.means.lists touch.address touch.dirty inside (links-fit store.table is.fit) is.rows.len_b
+    array_length = length-set s.array touch.address block ∙ holds.means.array_length;
+    array_blocks = all_set (λ other. length other ≡ store.journal.geo.block) s.array touch.address block refers.long holds.means.array_blocks;
+    lists = shows-touched print held (sizes_of store.journal.geo) s store.table store.count holds.means.lists touch.address touch.dirty inside (links-fit store.table is.fit) is.rows.len_b
         touch.block block (has_block print held touch.block block refers.there) may;
     clean = clean_after;
   }
 
-  pub after_is : after_rec store.journal.geo.acap store.journal.geo.bcap rec store.table ≡ Some after
-  after_is = after_touch store.journal.geo.acap store.journal.geo.bcap rec store.table touch refers.raised refers.touches refers.may
-
   -- one record and one reference more
-  pub kept_referred : Kept print (referred_store rec touch store) world c (reference (sizes_of store.journal.geo) s touch.address block)
-  kept_referred = record {
+  pub holds_referred : Holds print (referred_store rec touch store) world (reference (sizes_of store.journal.geo) s touch.address block)
+  holds_referred = record { means = means_after; laid = λ address never. absurd (cc never) }
+
+  -- and what is committed stays
+  pub kept_referred : (c : State) → Kept print store world c s → Kept print (referred_store rec touch store) world c (reference (sizes_of store.journal.geo) s touch.address block)
+  kept_referred c kept = record {
     up = kept.up;
-    holds = record { means = means_after; laid = λ address never. absurd (cc never) };
+    holds = holds_referred;
     counted = kept.counted;
     stands = kept.stands;
     rows = kept.rows;
     sits = kept.sits;
     fit = kept.fit;
-    replayed = replay_more store.journal.geo.acap store.journal.geo.bcap store.pending rec kept.rows store.table after kept.replayed after_is;
+    replayed = replay_more store.journal.geo.acap store.journal.geo.bcap store.pending rec kept.rows store.table rows_then kept.replayed (after_is store is rec touch refers.fits);
     slots_stable = kept.slots_stable;
     slots_kept = λ slot listed. fewer_free slot (cut_block store.journal.geo.bcap touch.block store.table.b) touch.block store.uses (kept.slots_kept slot listed);
     blocks_committed = kept.blocks_committed;
-    blocks_held = λ address below clean. kept.blocks_held address below (clean_was address clean);
+    blocks_held = λ address below clean. kept.blocks_held address below (clean_was store is rec touch refers.fits address clean);
   }

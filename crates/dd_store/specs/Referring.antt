@@ -3,6 +3,7 @@ use Rattle.std.specs.Prelude.{◌≡◌, ◌⊎◌, ℕ, suc, ◌<◌, true, fal
 use Rattle.dd_block.specs.declared.print.Fp.{Fp}
 use Rattle.dd_slots.specs.declared.usage.Usage.{Usage}
 use Rattle.dd_slots.specs.declared.usage.Usage.TheVariants.{Used, Waiting}
+use Rattle.dd_slots.specs.Slots.{SlotsView}
 use Rattle.dd_layout.specs.Layout.{slot_block}
 use Rattle.dd_record.specs.declared.row.BRow.{BRow}
 use Rattle.dd_record.specs.declared.rec.Rec.{Rec}
@@ -26,12 +27,15 @@ abbrev pub IsPlaced : State → Table → Option BRow → List ℕ → Type 0
 IsPlaced s table None block = ⊤
 IsPlaced s table (Some row) block = (has_slot row.slot table.b ≡ true) ⊎ ((has_slot row.slot table.b ≡ false) × (is_known block s.blocks ≡ false))
 
--- A record references an address with this content: the content is there, and nothing dirty falls off but what the address itself
--- replaces. A read references an address with the content that it has.
-pub record Refers (print : List ℕ → Fp) (store : StoreView) (flash : List ℕ) (s : State) (its : Rec) (touch : Touch) (block : List ℕ) : Type 0 where
+-- a record of a reference fits the store's rows, and nothing dirty falls off but what the address itself replaces
+pub record RecordFits (store : StoreView) (its : Rec) (touch : Touch) : Type 0 where
   pub touches : touch_of its store.table ≡ Some touch
   pub raised : raises its ≡ true
   pub may : may_touch store.journal.geo.acap store.journal.geo.bcap touch store.table ≡ true
+
+-- A record references an address with this content, which is there. A read references an address with the content that it has.
+pub record Refers (print : List ℕ → Fp) (store : StoreView) (flash : List ℕ) (s : State) (its : Rec) (touch : Touch) (block : List ℕ) : Type 0 where
+  pub fits : RecordFits store its touch
   pub below : touch.address < store.journal.geo.blocks
   pub long : length block ≡ store.journal.geo.block
   pub there : IsThere print (slot_block store.journal.geo flash) touch.block block
@@ -70,3 +74,7 @@ kind_of (rec.Clean address) = kind.Hit
 -- what a reference answers
 abbrev pub done_of : StoreView → Rec → Touch → Done
 done_of store its touch = record { kind = kind_of its; cut = cut_by store.journal.geo.acap store.journal.geo.bcap touch store.table }
+
+-- the same of the slots themselves
+abbrev pub slots_let_go : Option BRow → SlotsView → SlotsView
+slots_let_go cut slots = record slots { uses = let_go cut slots.uses }

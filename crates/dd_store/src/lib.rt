@@ -13,6 +13,7 @@ mod fault;
 mod lay;
 mod mark;
 mod place;
+mod refer;
 mod store;
 mod used;
 

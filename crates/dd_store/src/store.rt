@@ -1,11 +1,11 @@
 // The store.
-ghost use Rattle.std.specs.Prelude.{◌≡◌, ◌⊎◌, ◌+◌, ◌*◌, ◌<◌, ◌≤◌, [], ℕ, List, length, true, IfOk, OnOk, OnErr, IfErr, IsTrue};
+ghost use Rattle.std.specs.Prelude.{◌≡◌, ◌⊎◌, ◌+◌, ◌-◌, ◌*◌, ◌^◌, ◌<◌, ◌≤◌, [], ℕ, List, length, true, IfOk, OnOk, OnErr, IfErr, IsTrue};
 ghost use Rattle.dd_block.specs.declared.print.Fp.{Fp};
 ghost use Rattle.dd_rig.specs.declared.device.Dev.TheVariants.{Flash, Disk};
 ghost use Rattle.dd_rig.specs.Clock.{Elapses};
 ghost use Rattle.dd_rig.specs.Counts.{Frame, Makes, up_to, nothing, plus, count_sync};
 ghost use Rattle.dd_model.specs.State.{State};
-ghost use Rattle.dd_layout.specs.Layout.{disk_need};
+ghost use Rattle.dd_layout.specs.Layout.{flash_need, disk_need};
 ghost use Rattle.dd_journal.specs.Regions.{AreRows, snapshot_size};
 ghost use Rattle.dd_journal.specs.Sitting.{Sits, IsStable};
 ghost use Rattle.dd_store.specs.Meaning.{Means};
@@ -151,6 +151,53 @@ impl<F: Fingerprint, L: Lists> Store<F, L> {
         self.laid.len() as u32
     }
 
+    // Commits what is pending. The slots that waited are free then.
+    fn commit<R: Rig>(&mut self, rig: &mut R) -> Result<(), StoreFault>
+        requires up { IsTrue self.old.store.is_up }
+        requires epoch { self.old.store.journal.epoch < 2 ^ 64 - 1 }
+        requires flash { flash_need self.old.store.journal.geo ≤ R.device_size rig.old Flash }
+        ensures serves { R.tells → (c s : State) → Kept (F.printed self.old.print) self.old.store (R.world rig.old) c s
+            → Serves (F.printed self.old.print) result (R.clock rig.old) (R.clock rig.new) self.new.store (R.world rig.new) c s s }
+        ensures committed { R.tells → (c s : State) → Kept (F.printed self.old.print) self.old.store (R.world rig.old) c s
+            → OnOk result (Kept (F.printed self.old.print) self.new.store (R.world rig.new) s s) }
+        ensures unsaid { R.tells → Elapses (R.clock rig.old) (R.clock rig.new) (λ o. o.out ≡ (R.world rig.old).said) }
+        ensures said { R.tells → (R.world rig.new).said ≡ (R.world rig.old).said }
+        ensures store { OnOk result (self.new.store ≡ committed_store (unlaid self.old.store) self.new.store.journal) }
+        ensures journal { OnOk result (self.new.store.journal.committed ≡ self.old.store.count) }
+        ensures geometry { self.new.store.journal.geo ≡ self.old.store.journal.geo }
+        ensures epoch { (self.new.store.journal.epoch ≡ self.old.store.journal.epoch) ⊎ (self.new.store.journal.epoch ≡ self.old.store.journal.epoch + 1) }
+        ensures rows { (self.new.store.count ≡ self.old.store.count) × (self.new.store.dirty ≡ self.old.store.dirty) }
+        ensures fault { IfErr result (λ fault. fault ≡ FlashWrite) }
+        ensures up { StaysUp result self.new.store }
+        ensures print { self.new.print ≡ self.old.print }
+        ensures forgets { self.new.store.laid ≡ [] }
+        ensures calls { 48 * length self.old.store.pending + 6 ≤ self.old.store.journal.room
+            → Makes (up_to 0 4 (48 * length self.old.store.pending + 6)) nothing (R.counts rig.old) (R.counts rig.new) }
+        ensures snapshot_calls { self.old.store.journal.room < 48 * length self.old.store.pending + 6
+            → Makes (up_to 0 6 (3 + snapshot_size self.old.store.table)) nothing (R.counts rig.old) (R.counts rig.new) }
+        ensures cause { IfErr result (λ fault. Faulted fault (R.counts rig.old) (R.counts rig.new)) }
+        ensures frame { Frame (R.counts rig.old) (R.counts rig.new) (R.device_size rig.old) (R.device_size rig.new) }
+    {
+        self.laid.clear();
+        match commit_rows(
+            &mut self.journal,
+            rig,
+            &self.lists,
+            self.count,
+            self.pending.as_slice(),
+        ) {
+            Err(_) => {
+                self.up = false;
+                Err(StoreFault::FlashWrite)
+            }
+            Ok(()) => {
+                self.pending.clear();
+                self.slots.settle();
+                Ok(())
+            }
+        }
+    }
+
     /// Commits what is pending, and answers how many references are committed: all of them.
     /// `FlashWrite` comes only where a write or a sync of the flash failed. The store is down then.
     pub fn flush<R: Rig>(&mut self, rig: &mut R) -> Result<u64, StoreFault>
@@ -175,23 +222,9 @@ impl<F: Fingerprint, L: Lists> Store<F, L> {
         ensures cause { IfErr result (λ fault. Faulted fault (R.counts rig.old) (R.counts rig.new)) }
         ensures frame { Frame (R.counts rig.old) (R.counts rig.new) (R.device_size rig.old) (R.device_size rig.new) }
     {
-        self.laid.clear();
-        match commit_rows(
-            &mut self.journal,
-            rig,
-            &self.lists,
-            self.count,
-            self.pending.as_slice(),
-        ) {
-            Err(_) => {
-                self.up = false;
-                Err(StoreFault::FlashWrite)
-            }
-            Ok(()) => {
-                self.pending.clear();
-                self.slots.settle();
-                Ok(self.count)
-            }
+        match self.commit(rig) {
+            Err(fault) => Err(fault),
+            Ok(()) => Ok(self.count),
         }
     }
 
