@@ -29,7 +29,7 @@ pub mod Replayed
 pub mod Restored
 pub mod Searching
 pub mod ShownLaws
-mod Slots
+pub mod Slots
 pub mod StateLaws
 pub mod Stepping
 mod Together

@@ -33,7 +33,7 @@ held_same held (Slot slot) x y linked holds_x holds_y = sym holds_x ∙ holds_y
 held_same held Zero x y linked holds_x holds_y = absurd holds_x
 
 -- two arrays of one length whose blocks have one length
-length_at : (n : ℕ) (array : List (List ℕ)) (address : ℕ) → AllByRecursion (λ block. length block ≡ n) array → address < length array → length (content array address) ≡ n
+pub length_at : (n : ℕ) (array : List (List ℕ)) (address : ℕ) → AllByRecursion (λ block. length block ≡ n) array → address < length array → length (content array address) ≡ n
 length_at n [] address all below = absurd (omega (arith, below))
 length_at n (block ∷ array) zero all below = all.0
 length_at n (block ∷ array) (suc address) all below = length_at n array address all.1 (omega (arith, below))
@@ -70,7 +70,7 @@ state_same s t array addresses blocks count = λ i. record { array = array i; ad
 
 -- over some bytes rows and a count mean one state
 module _ (print : List ℕ → Fp) (geo : Geometry) (flash disk : List ℕ) (table : Table) (count : ℕ) (s t : State) (linked : AllByRecursion IsDirtyLinked table.a) where
-  means_one : Means print geo flash disk table count s → Means print geo flash disk table count t → s ≡ t
+  pub means_one : Means print geo flash disk table count s → Means print geo flash disk table count t → s ≡ t
   means_one m n =
       let held = slot_block geo flash in
       let dirty : (address : ℕ) → address < geo.blocks → is_dirty_at address table.a ≡ true → content s.array address ≡ content t.array address =
@@ -92,7 +92,7 @@ module _ (print : List ℕ → Fp) (geo : Geometry) (flash disk : List ℕ) (tab
       state_same s t (same_array geo disk table s t m.array_length n.array_length m.clean n.clean dirty)
       (m.lists.addresses ∙ sym n.lists.addresses) (m.lists.blocks ∙ sym n.lists.blocks) (m.lists.counted ∙ sym n.lists.counted)
 
-are_linked : (geo : Geometry) (version : ℕ) (rows : List ARow) → AllByRecursion (IsA geo version) rows → AllByRecursion IsDirtyLinked rows
+pub are_linked : (geo : Geometry) (version : ℕ) (rows : List ARow) → AllByRecursion (IsA geo version) rows → AllByRecursion IsDirtyLinked rows
 are_linked geo version [] h = tt
 are_linked geo version (row ∷ rows) h = (h.0.linked, are_linked geo version rows h.1)
 

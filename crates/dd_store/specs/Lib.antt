@@ -1,1 +1,7 @@
+pub mod Committing
+pub mod Keeping
+pub mod Laying
 pub mod Meaning
+pub mod Referring
+pub mod Saving
+pub mod Serving

@@ -1,7 +1,24 @@
-//! The store: what it is that two devices stand for a state of the cache.
+//! The store: what it is that two devices stand for a state of the cache, and how calls carry it on.
 //!
 //! `specs/Meaning` has the relation that every crash clause above ends in: the bytes of a flash and
 //! of a disk stand for an array, both recency lists and a count. It reads two whole images; it knows
 //! nothing of pending records, free slots or indexes. Two devices stand for one state at most
-//! (`proofs/Sole`). The calls of the store are still to come.
+//! (`proofs/Sole`). `specs/Keeping` says what holds between a store and a rig from one device call
+//! to the next, and each function here carries it through one kind of call. The calls of the store
+//! are still to come.
 #![tactic(auto)]
+
+mod commit;
+mod fault;
+mod lay;
+mod mark;
+mod place;
+mod refer;
+mod store;
+mod used;
+
+pub use commit::commit_rows;
+pub use fault::StoreFault;
+pub use lay::{lay_block, lay_row, sync_laid};
+pub use place::place_block;
+pub use store::Store;

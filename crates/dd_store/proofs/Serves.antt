@@ -1,0 +1,60 @@
+-- Calls of a store one after the other.
+use Rattle.std.proofs.Common.{◌≡◌, ◌⊎◌, inl, inr, ⊎_elim, List, ℕ, ◌∙◌, subst}
+use Rattle.std.specs.Prelude.{Result, Ok, Err}
+use Rattle.dd_block.specs.declared.print.Fp.{Fp}
+use Rattle.dd_rig.specs.Clock.{Clock, Elapses}
+use Rattle.dd_rig.specs.World.{World}
+use Rattle.dd_rig.proofs.Moments.{goes_on}
+use Rattle.dd_model.specs.State.{State}
+use Rattle.dd_store.specs.declared.fault.StoreFault.{StoreFault}
+use Rattle.dd_store.specs.declared.fault.StoreFault.TheVariants.{FlashRead, DiskRead, FlashWrite, DiskWrite}
+use Rattle.dd_store.specs.Meaning.{Stands}
+use Rattle.dd_store.specs.Keeping.{StoreView, Kept}
+use Rattle.dd_store.specs.Committing.{StandForEither}
+use Rattle.dd_store.specs.Serving.{GoesOn, Leaves, Serves}
+
+module _ (print : List ℕ → Fp) (k c s : State) (one_of : (k ≡ c) ⊎ (k ≡ s)) where
+  -- what stands for one of two states, of which the first is one of two others
+  either_wider : (flash disk : List ℕ) → StandForEither print k s flash disk → StandForEither print c s flash disk
+  either_wider flash disk (inl stands) = ⊎_elim (λ is. inl (subst (Stands print flash disk) is stands)) (λ is. inr (subst (Stands print flash disk) is stands)) one_of
+  either_wider flash disk (inr stands) = inr stands
+
+  goes_on_wider : (store : StoreView) (world : World) (held : State) → GoesOn print k s store world held → GoesOn print c s store world held
+  goes_on_wider store world held goes = record {
+    committed = goes.committed;
+    either = ⊎_elim (λ is. ⊎_elim (λ was. inl (is ∙ was)) (λ was. inr (is ∙ was)) one_of) (λ is. inr is) goes.either;
+    kept = goes.kept;
+  }
+
+  leaves_wider : {T : Type 0} (result : Result T StoreFault) (next : State) (store : StoreView) (world : World) → Leaves print result k s next store world → Leaves print result c s next store world
+  leaves_wider (Ok value) next store world leaves = goes_on_wider store world next leaves
+  leaves_wider (Err FlashRead) next store world leaves = goes_on_wider store world s leaves
+  leaves_wider (Err DiskRead) next store world leaves = goes_on_wider store world s leaves
+  leaves_wider (Err FlashWrite) next store world leaves = λ flash disk flash_image disk_image. either_wider flash disk (leaves flash disk flash_image disk_image)
+  leaves_wider (Err DiskWrite) next store world leaves = λ flash disk flash_image disk_image. either_wider flash disk (leaves flash disk flash_image disk_image)
+
+-- a call that kept the state, and another one behind it: together they serve as the second does
+pub serves_then : {T : Type 0} (print : List ℕ → Fp) (first middle last : Clock) (between store : StoreView) (before after : World) (c s next : State) (result : Result T StoreFault)
+    → Elapses first middle (λ o. StandForEither print c s o.flash o.disk) → GoesOn print c s between before s
+    → ((k : State) → Kept print between before k s → Serves print result middle last store after k s next) → Serves print result first last store after c s next
+serves_then print first middle last between store before after c s next result crash goes call =
+    let after_it = call goes.committed goes.kept in
+    record {
+      crash = goes_on crash after_it.crash (λ o stands. either_wider print goes.committed c s goes.either o.flash o.disk stands);
+      leaves = leaves_wider print goes.committed c s goes.either result next store after after_it.leaves;
+    }
+
+-- the value of an Ok, and of an error, of another type
+pub serves_ok : {T U : Type 0} (print : List ℕ → Fp) (first last : Clock) (store : StoreView) (world : World) (c s next : State) (value : T) (other : U)
+    → Serves print (Ok value) first last store world c s next → Serves print (Ok other) first last store world c s next
+serves_ok print first last store world c s next value other serves = record { crash = serves.crash; leaves = serves.leaves }
+
+pub serves_err : (T U : Type 0) (print : List ℕ → Fp) (first last : Clock) (store : StoreView) (world : World) (c s next : State) (fault : StoreFault)
+    → Serves {T = T} print (Err fault) first last store world c s next → Serves {T = U} print (Err fault) first last store world c s next
+serves_err T U print first last store world c s next fault serves = record { crash = serves.crash; leaves = by_fault fault serves.leaves }
+  where
+    by_fault : (f : StoreFault) → Leaves {T = T} print (Err f) c s next store world → Leaves {T = U} print (Err f) c s next store world
+    by_fault FlashRead h = h
+    by_fault DiskRead h = h
+    by_fault FlashWrite h = h
+    by_fault DiskWrite h = h
