@@ -46,7 +46,7 @@ returns-in_default-clause-served g c = λ t u.
     let later = subst (λ (k : Counts). NeverFalls k end) counts c.finish.ensures.later in
     let idle = subst (λ (k : Counts). IsIdle k end) counts c.finish.ensures.idle in
     subst (λ (n : ℕ). Replays print c.args.plan (g.R.Rig.device_size c.args.rig.now Disk) n script old new before end) (sym c.finish.ensures.status)
-    (stops_alone print c.args.plan (g.R.Rig.device_size c.args.rig.now Disk) script old before stop.Memory old new before end (falls_self before) later idle (stops_early print c.args.plan (g.R.Rig.device_size c.args.rig.now Disk) script old before stop.Memory before (falls_self before) (asks_early (plan_sizes c.args.plan (g.R.Rig.device_size c.args.rig.now Disk)) before before (omega arith) (omega arith) (omega arith) (omega arith) (omega arith) (omega arith) (omega arith)) refl (λ e. omega arith) (commands_some (blocks_of c.args.plan (g.R.Rig.device_size c.args.rig.now Disk)) script)) said)
+    (stops_alone print c.args.plan (g.R.Rig.device_size c.args.rig.now Disk) script old before stop.Memory old new before end (falls_self before) later idle (stops_early print c.args.plan (g.R.Rig.device_size c.args.rig.now Disk) script old before stop.Memory before (falls_self before) (asks_early (plan_sizes c.args.plan (g.R.Rig.device_size c.args.rig.now Disk)) before before (omega arith) (omega arith) (omega arith) (omega arith) (omega arith) (omega arith) (omega arith)) (λ e. absurd (cc)) (λ e. omega arith) (commands_some (blocks_of c.args.plan (g.R.Rig.device_size c.args.rig.now Disk)) script)) said)
 
 pub returns-in-Ok-served-clause-served : goal.returns-in-Ok-served-clause-served
 returns-in-Ok-served-clause-served g c = λ t u.
