@@ -344,33 +344,33 @@ module _ (print : List ℕ → Fp) (plan : Plan) (disk : ℕ) (script : List ℕ
       (λ (short : n ≤ length (stop_text why)). stops_part why middle new between end n earlier later idle stops rose said short)
       (cases_lt (length (stop_text why)) n)
 
-  halts_not_disk : (why : Stop) (long : Type 0) (a b : Counts) (m n : ℕ) → Halts long (Stopped why) a b m n → why ≢ stop.Disk
-  halts_not_disk why long a b m n h = λ is. subst (λ (w : Stop). Halts long (Stopped w) a b m n) is h
+  halts_not_disk : (why : Stop) (failed long : Type 0) (a b : Counts) → Halts failed long (Stopped why) a b → why ≢ stop.Disk
+  halts_not_disk why failed long a b h = λ is. subst (λ (w : Stop). Halts failed long (Stopped w) a b) is h
 
-  halts_long : (why : Stop) (long : Type 0) (a b : Counts) (m n : ℕ) → Halts long (Stopped why) a b m n → stopped_status why ≡ 8 → long
-  halts_long stop.Flash long a b m n h e = absurd (omega arith)
-  halts_long stop.Disk long a b m n h e = absurd h
-  halts_long stop.Script long a b m n h e = absurd (omega arith)
-  halts_long stop.Length long a b m n h e = h
-  halts_long stop.Memory long a b m n h e = absurd h
+  halts_long : (why : Stop) (failed long : Type 0) (a b : Counts) → Halts failed long (Stopped why) a b → stopped_status why ≡ 8 → long
+  halts_long stop.Flash failed long a b h e = absurd (omega arith)
+  halts_long stop.Disk failed long a b h e = absurd h
+  halts_long stop.Script failed long a b h e = absurd (omega arith)
+  halts_long stop.Length failed long a b h e = h
+  halts_long stop.Memory failed long a b h e = absurd h
 
-  halts_asks : (why : Stop) (long : Type 0) (a b : Counts) (m n : ℕ) → Halts long (Stopped why) a b m n → (lines : List (List ℕ)) → AsksForLines sizes lines 1 before b → AsksForLines sizes lines (unfinished (stopped_status why)) before b
-  halts_asks stop.Flash long a b m n h lines asks = asks
-  halts_asks stop.Disk long a b m n h lines asks = absurd h
-  halts_asks stop.Script long a b m n h lines asks = asks
-  halts_asks stop.Length long a b m n h lines asks = asks
-  halts_asks stop.Memory long a b m n h lines asks = absurd h
+  halts_asks : (why : Stop) (failed long : Type 0) (a b : Counts) → Halts failed long (Stopped why) a b → (lines : List (List ℕ)) → AsksForLines sizes lines 1 before b → AsksForLines sizes lines (unfinished (stopped_status why)) before b
+  halts_asks stop.Flash failed long a b h lines asks = asks
+  halts_asks stop.Disk failed long a b h lines asks = absurd h
+  halts_asks stop.Script failed long a b h lines asks = asks
+  halts_asks stop.Length failed long a b h lines asks = asks
+  halts_asks stop.Memory failed long a b h lines asks = absurd h
 
   -- serving halted
-  pub stops_served : (why : Stop) (middle : World) (end : Counts) (m n : ℕ) → AnsweredUpTo print sizes start commands (Stopped why) old.said middle.said before end
-      → Halts (IsBounded plan disk script → ⊥) (Stopped why) before end m n → StopsWith why middle end
-  stops_served why middle end m n served halts = record {
+  pub stops_served : (why : Stop) (failed : Type 0) (middle : World) (end : Counts) → AnsweredUpTo print sizes start commands (Stopped why) old.said middle.said before end
+      → Halts failed (IsBounded plan disk script → ⊥) (Stopped why) before end → StopsWith why middle end
+  stops_served why failed middle end served halts = record {
     sofar = served.sofar;
     some = served.halts.0;
     nothing_more = served.halts.1;
-    not_disk = halts_not_disk why (IsBounded plan disk script → ⊥) before end m n halts;
-    long = halts_long why (IsBounded plan disk script → ⊥) before end m n halts;
-    asks = halts_asks why (IsBounded plan disk script → ⊥) before end m n halts served.sofar.lines served.sofar.asks;
+    not_disk = halts_not_disk why failed (IsBounded plan disk script → ⊥) before end halts;
+    long = halts_long why failed (IsBounded plan disk script → ⊥) before end halts;
+    asks = halts_asks why failed (IsBounded plan disk script → ⊥) before end halts served.sofar.lines served.sofar.asks;
   }
 
   -- it never began: no more than a read of the flash was made
