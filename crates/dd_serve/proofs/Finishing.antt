@@ -1,6 +1,5 @@
 -- The end of a run: what its status says of what was said.
-use Rattle.std.proofs.Common.{rules, ◌≡◌, ◌≢◌, inl, inr, ⊎_elim, ℕ, ◌+◌, ◌<◌, ◌≤◌, Bool, true, false, List, [], ◌∷◌, ◌++◌, length, take, drop, refl, sym, ◌∙◌, ap, subst, arith, Some, append_assoc, append-nil, if◌then◌else◌}
-use Rattle.std.specs.Prelude.{Option, IfSome}
+use Rattle.std.proofs.Common.{rules, ◌≡◌, ◌≢◌, inl, inr, ⊎_elim, ℕ, ◌+◌, ◌<◌, ◌≤◌, Bool, true, false, List, [], ◌∷◌, ◌++◌, length, take, drop, refl, sym, ◌∙◌, ap, subst, arith, append_assoc, append-nil, if◌then◌else◌, ◌==◌}
 use Rattle.std.specs.List.{flat_map}
 use Rattle.std.specs.Str.{bytes_eq}
 use Rattle.std.proofs.lemmas.Bool.{cases_lt}
@@ -29,7 +28,7 @@ use Rattle.dd_serve.specs.Answering.{Sofar, HasFault, AnsweredAll, AnsweredUpTo}
 use Rattle.dd_serve.specs.Calls.{AsksForLines, loads_in, unfinished}
 use Rattle.dd_serve.specs.Ending.{stopped_status}
 use Rattle.dd_serve.specs.Saying.{IsIdle, SaysAlone}
-use Rattle.dd_serve.specs.Replays.{Replays, EndsIn, IsBounded, last_line, said_since, lines_since, plan_sizes, replay_start, replay_commands, replay_output}
+use Rattle.dd_serve.specs.Replays.{Replays, EndsIn, IsBounded, said_since, lines_since, plan_sizes, replay_start, replay_commands, replay_output}
 use Rattle.dd_serve.proofs.Costs.{faults_snoc, asks_stop, asks_still, asks_weaker}
 use Rattle.dd_serve.proofs.Going.{flat_snoc, whole_snoc, no_faults, cut_some, cut_part, front_no_end}
 
@@ -72,6 +71,36 @@ module _ (print : List ℕ → Fp) (sizes : Sizes) where
 abbrev pub status_for : Bool → ℕ
 status_for false = 0
 status_for true = 1
+
+-- a run that stops has a status of its own
+pub stop_large : (why : Stop) → 4 ≤ stopped_status why
+stop_large stop.Flash = omega arith
+stop_large stop.Disk = omega arith
+stop_large stop.Script = omega arith
+stop_large stop.Length = omega arith
+stop_large stop.Memory = omega arith
+
+-- and it isn't that of a run whose emit failed
+stop_heard : (why : Stop) → 6 ≡ stopped_status why → ⊥
+stop_heard stop.Flash e = omega (arith, e)
+stop_heard stop.Disk e = omega (arith, e)
+stop_heard stop.Script e = omega (arith, e)
+stop_heard stop.Length e = omega (arith, e)
+stop_heard stop.Memory e = omega (arith, e)
+
+-- it tells why, but for the device
+abbrev stop_for : ℕ → Stop
+stop_for status = if status == 4 then stop.Memory else if status == 5 then stop.Script else if status == 8 then stop.Length else stop.Flash
+
+stop_back : (why : Stop) → why ≢ stop.Disk → stop_for (stopped_status why) ≡ why
+stop_back stop.Flash not = refl
+stop_back stop.Disk not = absurd (not refl)
+stop_back stop.Script not = refl
+stop_back stop.Length not = refl
+stop_back stop.Memory not = refl
+
+same_stop : (why other : Stop) → why ≢ stop.Disk → other ≢ stop.Disk → stopped_status why ≡ stopped_status other → why ≡ other
+same_stop why other not nor e = sym (stop_back why not) ∙ ap stop_for e ∙ stop_back other nor
 
 -- a run of which no emit failed doesn't have one that did
 not_both : (a b c d : ℕ) → a ≤ b → c ≤ d → IsStill a d → Rose b c → ⊥
@@ -136,9 +165,9 @@ module _ (print : List ℕ → Fp) (plan : Plan) (disk : ℕ) (script : List ℕ
   fault_so false new end s fault one_is = absurd (omega arith)
   fault_so true new end s fault one_is = subst (λ (l : List (List ℕ)). 0 < faults_in dev.Flash l + faults_in dev.Disk l) (sym (ap (λ (l : Lines). l.whole) (lines_are new end s))) fault
 
-  no_last : (faulted : Bool) (new : World) (end : Counts) → IfSome (last_line (status_for faulted)) (λ line. EndsIn line (said_since old new) before end)
-  no_last false new end = tt
-  no_last true new end = tt
+  no_last : (faulted : Bool) (why : Stop) → status_for faulted ≡ stopped_status why → ⊥
+  no_last false why e = omega (arith, e, stop_large why)
+  no_last true why e = omega (arith, e, stop_large why)
 
   status_small : (faulted : Bool) → (status_for faulted ≡ 8) → ⊥
   status_small false e = omega arith
@@ -164,7 +193,7 @@ module _ (print : List ℕ → Fp) (plan : Plan) (disk : ℕ) (script : List ℕ
         disk_faults = disk_so new end s;
         asks = served_more faulted (lines_since old new) end (asks_so 0 new end s served.asks);
         loads = loads_so faulted new end s served.fault served.asks;
-        last = no_last faulted new end;
+        last = λ why not e. absurd (no_last faulted why e);
         bounded = λ small. bounded;
         long = λ e. absurd (status_small faulted e);
       }
@@ -184,7 +213,7 @@ module _ (print : List ℕ → Fp) (plan : Plan) (disk : ℕ) (script : List ℕ
         disk_faults = disk_so new end s;
         asks = asks_so 1 new end s s.asks;
         loads = λ e. absurd (omega arith);
-        last = tt;
+        last = λ why not e. absurd (stop_heard why e);
         bounded = λ small. absurd (omega arith);
         long = λ e. absurd (omega arith);
       }
@@ -215,19 +244,12 @@ module _ (print : List ℕ → Fp) (plan : Plan) (disk : ℕ) (script : List ℕ
   stop_no_fault stop.Length dev.Disk = refl
   stop_no_fault stop.Memory dev.Disk = refl
 
-  stop_status : (why : Stop) → 4 ≤ stopped_status why
-  stop_status stop.Flash = omega arith
-  stop_status stop.Disk = omega arith
-  stop_status stop.Script = omega arith
-  stop_status stop.Length = omega arith
-  stop_status stop.Memory = omega arith
-
   -- what a run says that stops
   pub record StopsWith (why : Stop) (middle : World) (end : Counts) : Type 0 where
     pub sofar : SofarAt middle end
     pub some : sofar.left ≢ []
     pub nothing_more : sofar.rest ≡ []
-    pub last : last_line (stopped_status why) ≡ Some (stop_text why)
+    pub not_disk : why ≢ stop.Disk
     pub long : stopped_status why ≡ 8 → IsBounded plan disk script → ⊥
     pub asks : AsksForLines sizes sofar.lines (unfinished (stopped_status why)) before end
 
@@ -259,15 +281,15 @@ module _ (print : List ℕ → Fp) (plan : Plan) (disk : ℕ) (script : List ℕ
           ending = subst (λ (l : Lines). Ends print sizes s.lines s.state s.left l) (sym are) (inr (line, (why, refl), stops.some, refl, refl));
         };
         whole = λ still. ap (λ (l : Lines). l.rest) are;
-        all = λ small. absurd (omega (arith, stop_status why));
-        exact = λ e. absurd (omega (arith, stop_status why, e));
-        fault = λ e. absurd (omega (arith, stop_status why, e));
+        all = λ small. absurd (omega (arith, stop_large why));
+        exact = λ e. absurd (omega (arith, stop_large why, e));
+        fault = λ e. absurd (omega (arith, stop_large why, e));
         flash_faults = omega (arith, s.flash_faults, later.flash_reads, ap (faults_in dev.Flash) lines, faults_stop dev.Flash why s.lines);
         disk_faults = omega (arith, s.disk_faults, later.disk_reads, ap (faults_in dev.Disk) lines, faults_stop dev.Disk why s.lines);
         asks = subst (λ (l : List (List ℕ)). AsksForLines sizes l (unfinished (stopped_status why)) before end) (sym lines) (asks_stop sizes s.lines why (unfinished (stopped_status why)) before end (asks_still sizes s.lines (unfinished (stopped_status why)) before between end idle stops.asks));
-        loads = λ e. absurd (omega (arith, stop_status why, e));
-        last = subst (λ (o : Option (List ℕ)). IfSome o (λ l. EndsIn l (said_since old new) before end)) (sym stops.last) (s.lines, s.whole, inl since);
-        bounded = λ small. absurd (omega (arith, stop_status why));
+        loads = λ e. absurd (omega (arith, stop_large why, e));
+        last = λ other not e. subst (λ (w : Stop). EndsIn (stop_text w) (said_since old new) before end) (same_stop why other stops.not_disk not e) (s.lines, s.whole, inl since);
+        bounded = λ small. absurd (omega (arith, stop_large why));
         long = stops.long;
       }
 
@@ -296,16 +318,16 @@ module _ (print : List ℕ → Fp) (plan : Plan) (disk : ℕ) (script : List ℕ
         said = goes_on new end s;
         answers = answers_so new end s;
         whole = λ still. absurd (not_both _ _ _ _ earlier.emits (omega arith) still rose);
-        all = λ small. absurd (omega (arith, stop_status why));
-        exact = λ e. absurd (omega (arith, stop_status why, e));
-        fault = λ e. absurd (omega (arith, stop_status why, e));
+        all = λ small. absurd (omega (arith, stop_large why));
+        exact = λ e. absurd (omega (arith, stop_large why, e));
+        fault = λ e. absurd (omega (arith, stop_large why, e));
         flash_faults = flash_so new end s;
         disk_faults = disk_so new end s;
         asks = asks_so (unfinished (stopped_status why)) new end s (asks_still sizes first.lines (unfinished (stopped_status why)) before between end idle stops.asks);
-        loads = λ e. absurd (omega (arith, stop_status why, e));
-        last = subst (λ (o : Option (List ℕ)). IfSome o (λ l. EndsIn l (said_since old new) before end)) (sym stops.last)
+        loads = λ e. absurd (omega (arith, stop_large why, e));
+        last = λ other not e. subst (λ (w : Stop). EndsIn (stop_text w) (said_since old new) before end) (same_stop why other stops.not_disk not e)
             (first.lines, first.whole, inr (omega (arith, earlier.emits, rose), n, since_lines new end s ∙ ap (λ (l : List ℕ). flat_map ended first.lines ++ l) (sym (cut_part line n short))));
-        bounded = λ small. absurd (omega (arith, stop_status why));
+        bounded = λ small. absurd (omega (arith, stop_large why));
         long = stops.long;
       }
     where
@@ -322,43 +344,39 @@ module _ (print : List ℕ → Fp) (plan : Plan) (disk : ℕ) (script : List ℕ
       (λ (short : n ≤ length (stop_text why)). stops_part why middle new between end n earlier later idle stops rose said short)
       (cases_lt (length (stop_text why)) n)
 
-  halts_last : (why : Stop) (long : Type 0) (a b : Counts) (m n : ℕ) → Halts long (Stopped why) a b m n → last_line (stopped_status why) ≡ Some (stop_text why)
-  halts_last stop.Flash long a b m n h = refl
-  halts_last stop.Disk long a b m n h = absurd h
-  halts_last stop.Script long a b m n h = refl
-  halts_last stop.Length long a b m n h = refl
-  halts_last stop.Memory long a b m n h = refl
+  halts_not_disk : (why : Stop) (failed long : Type 0) (a b : Counts) → Halts failed long (Stopped why) a b → why ≢ stop.Disk
+  halts_not_disk why failed long a b h = λ is. subst (λ (w : Stop). Halts failed long (Stopped w) a b) is h
 
-  halts_long : (why : Stop) (long : Type 0) (a b : Counts) (m n : ℕ) → Halts long (Stopped why) a b m n → stopped_status why ≡ 8 → long
-  halts_long stop.Flash long a b m n h e = absurd (omega arith)
-  halts_long stop.Disk long a b m n h e = absurd h
-  halts_long stop.Script long a b m n h e = absurd (omega arith)
-  halts_long stop.Length long a b m n h e = h
-  halts_long stop.Memory long a b m n h e = absurd h
+  halts_long : (why : Stop) (failed long : Type 0) (a b : Counts) → Halts failed long (Stopped why) a b → stopped_status why ≡ 8 → long
+  halts_long stop.Flash failed long a b h e = absurd (omega arith)
+  halts_long stop.Disk failed long a b h e = absurd h
+  halts_long stop.Script failed long a b h e = absurd (omega arith)
+  halts_long stop.Length failed long a b h e = h
+  halts_long stop.Memory failed long a b h e = absurd h
 
-  halts_asks : (why : Stop) (long : Type 0) (a b : Counts) (m n : ℕ) → Halts long (Stopped why) a b m n → (lines : List (List ℕ)) → AsksForLines sizes lines 1 before b → AsksForLines sizes lines (unfinished (stopped_status why)) before b
-  halts_asks stop.Flash long a b m n h lines asks = asks
-  halts_asks stop.Disk long a b m n h lines asks = absurd h
-  halts_asks stop.Script long a b m n h lines asks = asks
-  halts_asks stop.Length long a b m n h lines asks = asks
-  halts_asks stop.Memory long a b m n h lines asks = absurd h
+  halts_asks : (why : Stop) (failed long : Type 0) (a b : Counts) → Halts failed long (Stopped why) a b → (lines : List (List ℕ)) → AsksForLines sizes lines 1 before b → AsksForLines sizes lines (unfinished (stopped_status why)) before b
+  halts_asks stop.Flash failed long a b h lines asks = asks
+  halts_asks stop.Disk failed long a b h lines asks = absurd h
+  halts_asks stop.Script failed long a b h lines asks = asks
+  halts_asks stop.Length failed long a b h lines asks = asks
+  halts_asks stop.Memory failed long a b h lines asks = absurd h
 
   -- serving halted
-  pub stops_served : (why : Stop) (middle : World) (end : Counts) (m n : ℕ) → AnsweredUpTo print sizes start commands (Stopped why) old.said middle.said before end
-      → Halts (IsBounded plan disk script → ⊥) (Stopped why) before end m n → StopsWith why middle end
-  stops_served why middle end m n served halts = record {
+  pub stops_served : (why : Stop) (failed : Type 0) (middle : World) (end : Counts) → AnsweredUpTo print sizes start commands (Stopped why) old.said middle.said before end
+      → Halts failed (IsBounded plan disk script → ⊥) (Stopped why) before end → StopsWith why middle end
+  stops_served why failed middle end served halts = record {
     sofar = served.sofar;
     some = served.halts.0;
     nothing_more = served.halts.1;
-    last = halts_last why (IsBounded plan disk script → ⊥) before end m n halts;
-    long = halts_long why (IsBounded plan disk script → ⊥) before end m n halts;
-    asks = halts_asks why (IsBounded plan disk script → ⊥) before end m n halts served.sofar.lines served.sofar.asks;
+    not_disk = halts_not_disk why failed (IsBounded plan disk script → ⊥) before end halts;
+    long = halts_long why failed (IsBounded plan disk script → ⊥) before end halts;
+    asks = halts_asks why failed (IsBounded plan disk script → ⊥) before end halts served.sofar.lines served.sofar.asks;
   }
 
   -- it never began: no more than a read of the flash was made
-  pub stops_early : (why : Stop) (between : Counts) → NeverFalls before between → AsksForLines sizes [] 0 before between → last_line (stopped_status why) ≡ Some (stop_text why) → (stopped_status why ≡ 8 → ⊥)
+  pub stops_early : (why : Stop) (between : Counts) → NeverFalls before between → AsksForLines sizes [] 0 before between → why ≢ stop.Disk → (stopped_status why ≡ 8 → ⊥)
       → commands ≢ [] → StopsWith why old between
-  stops_early why between later asks last not_long some = record {
+  stops_early why between later asks not_disk not_long some = record {
     sofar = record {
       lines = [];
       state = start;
@@ -375,7 +393,7 @@ module _ (print : List ℕ → Fp) (plan : Plan) (disk : ℕ) (script : List ℕ
     };
     some = some;
     nothing_more = refl;
-    last = last;
+    not_disk = not_disk;
     long = λ e. absurd (not_long e);
     asks = early_asks why between asks;
   }
@@ -386,11 +404,3 @@ module _ (print : List ℕ → Fp) (plan : Plan) (disk : ℕ) (script : List ℕ
       early_asks stop.Script between h = asks_weaker sizes [] before between h
       early_asks stop.Length between h = asks_weaker sizes [] before between h
       early_asks stop.Memory between h = h
-
--- a run that stops has a status of its own
-pub stop_large : (why : Stop) → 4 ≤ stopped_status why
-stop_large stop.Flash = omega arith
-stop_large stop.Disk = omega arith
-stop_large stop.Script = omega arith
-stop_large stop.Length = omega arith
-stop_large stop.Memory = omega arith

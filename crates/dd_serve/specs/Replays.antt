@@ -1,5 +1,5 @@
 -- A replay: its state at the start, its output, and what each status says.
-use Rattle.std.specs.Prelude.{◌≡◌, ◌≤◌, ◌<◌, ◌+◌, ◌/◌, ◌==◌, ℕ, List, min, length, take, drop, ◌⊎◌, Option, Some, None, IfSome, [], ◌∷◌, ◌++◌, if◌then◌else◌}
+use Rattle.std.specs.Prelude.{◌≡◌, ◌≢◌, ◌≤◌, ◌<◌, ◌+◌, ◌/◌, ℕ, List, min, length, take, drop, ◌⊎◌, [], ◌∷◌, ◌++◌}
 use Rattle.std.specs.List.{AllByRecursion, flat_map}
 use Rattle.dd_block.specs.declared.print.Fp.{Fp}
 use Rattle.dd_rig.specs.declared.device.Dev.TheVariants as dev
@@ -7,6 +7,7 @@ use Rattle.dd_rig.specs.declared.tallies.Counts.{Counts}
 use Rattle.dd_rig.specs.Counts.{IsStill, Rose, plus}
 use Rattle.dd_rig.specs.World.{World, shown}
 use Rattle.dd_model.specs.State.{Sizes, State, array_of, fresh}
+use Rattle.dd_script.specs.declared.reply.Stop.{Stop}
 use Rattle.dd_script.specs.declared.reply.Stop.TheVariants as stop
 use Rattle.dd_script.specs.Command.{Command}
 use Rattle.dd_script.specs.Script.{lines_of, commands_of, EndsWithin}
@@ -15,6 +16,7 @@ use Rattle.dd_script.specs.Output.{output}
 use Rattle.dd_script.specs.Answers.{Answers, AnswersAll, faults_in}
 use Rattle.dd_serve.specs.declared.words.Plan.{Plan}
 use Rattle.dd_serve.specs.declared.scratch.Scratch.{Scratch}
+use Rattle.dd_serve.specs.Ending.{stopped_status}
 use Rattle.dd_serve.specs.Calls.{AsksForLines, loads_in, unfinished}
 
 -- no more blocks than these are numbered
@@ -61,15 +63,6 @@ said_since old new = drop (length old.said) new.said
 abbrev pub lines_since : World → World → List (List ℕ)
 lines_since old new = (lines_of (said_since old new)).whole
 
--- the line with which a run ends that stops with this status
-abbrev pub last_line : ℕ → Option (List ℕ)
-last_line status =
-    if status == 4 then Some (stop_text stop.Memory)
-    else if status == 5 then Some (stop_text stop.Script)
-    else if status == 7 then Some (stop_text stop.Flash)
-    else if status == 8 then Some (stop_text stop.Length)
-    else None
-
 -- the last that was said is that line, or an emit failed and it is a part of it
 abbrev pub EndsIn : List ℕ → List ℕ → Counts → Counts → Type 0
 EndsIn line output before after = (front : List (List ℕ)) × AllByRecursion HasNoEnd front ×
@@ -93,8 +86,8 @@ pub record Replays (print : List ℕ → Fp) (plan : Plan) (disk : ℕ) (status 
   -- no more calls were made than the lines say, and with 0 the disk was read for joins and misses alone, once each
   pub asks : AsksForLines (plan_sizes plan disk) (lines_since old new) (unfinished status) before after
   pub loads : status ≡ 0 → after.disk.reads ≤ before.disk.reads + loads_in (lines_since old new)
-  -- a run that stops ends with the line of its status, which is whole where no emit failed
-  pub last : IfSome (last_line status) (λ line. EndsIn line (said_since old new) before after)
+  -- a run that stops, which it never does at the disk, ends with the line of its status, and the line is whole where no emit failed
+  pub last : (why : Stop) → why ≢ stop.Disk → status ≡ stopped_status why → EndsIn (stop_text why) (said_since old new) before after
   -- 8 comes where the script has too many bytes, and 0 and 1 only where it hasn't
   pub bounded : status ≤ 1 → IsBounded plan disk script
   pub long : status ≡ 8 → IsBounded plan disk script → ⊥

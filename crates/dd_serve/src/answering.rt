@@ -9,7 +9,7 @@ ghost use Rattle.dd_script.specs.Script.{commands_of, EndsWithin};
 ghost use Rattle.dd_script.specs.Command.{read};
 ghost use Rattle.dd_serve.specs.declared.halt.Halt.TheVariants.{Output};
 ghost use Rattle.dd_serve.specs.Calls.{AsksFor};
-ghost use Rattle.dd_serve.specs.Causes.{Caused, Halts, stop_of};
+ghost use Rattle.dd_serve.specs.Causes.{Halts, stop_of};
 ghost use Rattle.dd_serve.specs.Scratch.{Fits, IsSound, OnlyFlash, Scratched, IsWithin, KeepsDevices, scratch_state, scratch_sizes};
 ghost use Rattle.dd_script.specs.Reading.{left, fuel, quits, IsTakenTo};
 ghost use Rattle.dd_script.specs.Text.{reply_room};
@@ -58,8 +58,8 @@ pub fn serve<F: Fingerprint, R: Rig, S: Source>(
     ensures time { R.tells → Elapses (R.clock rig.old) (R.clock rig.new) (KeepsDevices (R.world rig.old)) }
     ensures untouched { (R.counts rig.new).disk.writes ≡ (R.counts rig.old).disk.writes }
     ensures later { NeverFalls (R.counts rig.old) (R.counts rig.new) }
-    ensures halt { IfErr result (λ halt. Halts (S.tells → EndsWithin (fuel reader.old) scratch.old.blocks (left reader.old (S.rest source.old)) → ⊥) halt
-        (R.counts rig.old) (R.counts rig.new) (S.failures source.old) (S.failures source.new)) }
+    ensures halt { IfErr result (λ halt. Halts (Rose (S.failures source.old) (S.failures source.new)) (S.tells → EndsWithin (fuel reader.old) scratch.old.blocks (left reader.old (S.rest source.old)) → ⊥) halt
+        (R.counts rig.old) (R.counts rig.new)) }
 {
     let mut faulted = false;
     'lines: loop {
@@ -118,7 +118,7 @@ fn answer_line<F: Fingerprint, R: Rig>(
     ensures time { R.tells → Elapses (R.clock rig.old) (R.clock rig.new) (KeepsDevices (R.world rig.old)) }
     ensures untouched { (R.counts rig.new).disk.writes ≡ (R.counts rig.old).disk.writes }
     ensures frame { Frame (R.counts rig.old) (R.counts rig.new) (R.device_size rig.old) (R.device_size rig.new) }
-    ensures cause { IfErr result (λ halt. Caused halt (R.counts rig.old) (R.counts rig.new)) }
+    ensures cause { IfErr result (λ halt. Halts ⊥ ⊥ halt (R.counts rig.old) (R.counts rig.new)) }
 {
     match write_answer(scratch, rig, print, said, block, other, text)? {
         None => Ok(false),

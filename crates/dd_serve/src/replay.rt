@@ -151,8 +151,8 @@ fn serve_script<F: Fingerprint, R: Rig, S: Source>(
     ensures time { R.tells → Elapses (R.clock rig.old) (R.clock rig.new) (KeepsDevices (R.world rig.old)) }
     ensures untouched { (R.counts rig.new).disk.writes ≡ (R.counts rig.old).disk.writes }
     ensures later { NeverFalls (R.counts rig.old) (R.counts rig.new) }
-    ensures halt { IfOk result (λ served. IfErr served (λ halt. Halts (S.tells → IsBounded plan (R.device_size rig.old DiskDevice) (S.rest source.old) → ⊥) halt
-        (R.counts rig.old) (R.counts rig.new) (S.failures source.old) (S.failures source.new))) }
+    ensures halt { IfOk result (λ served. IfErr served (λ halt. Halts (Rose (S.failures source.old) (S.failures source.new)) (S.tells → IsBounded plan (R.device_size rig.old DiskDevice) (S.rest source.old) → ⊥) halt
+        (R.counts rig.old) (R.counts rig.new))) }
 {
     let size = plan.block as usize;
     let mut scratch = start(alloc, plan, rig)?;

@@ -66,7 +66,7 @@ returns-in-Err-clause-served g c = λ t u first.
     let said : SaysAlone (stop_text stop.Flash) between after old new = subst (λ (w : World). SaysAlone (stop_text stop.Flash) between after w new) (c.in-Err.ensures.world t) (c.finish.ensures.said t) in
     subst (λ (n : ℕ). Replays print c.args.plan (g.R.Rig.device_size c.args.rig.now Disk) n script old new before after) (sym c.finish.ensures.status)
     (stops_alone print c.args.plan (g.R.Rig.device_size c.args.rig.now Disk) script old before stop.Flash old new between after later c.finish.ensures.later c.finish.ensures.idle
-    (stops_early print c.args.plan (g.R.Rig.device_size c.args.rig.now Disk) script old before stop.Flash between later asks refl (λ e. omega (arith, e)) (commands_some (blocks_of c.args.plan (g.R.Rig.device_size c.args.rig.now Disk)) script)) said)
+    (stops_early print c.args.plan (g.R.Rig.device_size c.args.rig.now Disk) script old before stop.Flash between later asks (λ e. absurd (cc)) (λ e. omega (arith, e)) (commands_some (blocks_of c.args.plan (g.R.Rig.device_size c.args.rig.now Disk)) script)) said)
 
 pub returns-in-Ok-true-clause-refused : goal.returns-in-Ok-true-clause-refused
 returns-in-Ok-true-clause-refused g c = λ t.

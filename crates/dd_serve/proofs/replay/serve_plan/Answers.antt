@@ -1,6 +1,6 @@
 use Rattle.std.proofs.Common.{◌≡◌, ℕ, List, true, false, Bool, subst, sym, refl, ap, ◌∙◌, arith}
 use Rattle.dd_rig.specs.declared.tallies.Counts.{Counts}
-use Rattle.dd_rig.specs.Counts.{NeverFalls}
+use Rattle.dd_rig.specs.Counts.{NeverFalls, Rose}
 use Rattle.dd_rig.specs.declared.device.Dev.TheVariants.{Disk}
 use Rattle.dd_rig.specs.World.{World}
 use Rattle.dd_script.specs.declared.reply.Stop.TheVariants as stop
@@ -16,7 +16,7 @@ use Rattle.dd_rig.proofs.Falling.{falls_self}
 use Rattle.dd_serve.proofs.Costs.{asks_early}
 use Rattle.dd_serve.proofs.Moments.{end_moment}
 use Rattle.dd_serve.proofs.Going.{commands_some}
-use Rattle.dd_serve.proofs.Starts.{halts_by}
+use Rattle.dd_serve.proofs.Causes.{halts_by}
 use Rattle.dd_serve.proofs.Finishing.{status_for, serves_all, serves_cut, ends_silent, stops_alone, stops_served, stops_early, stop_large}
 use Rattle.dd_serve.proofs.replay.serve_plan.Goals as goal
 
@@ -46,7 +46,7 @@ returns-in_default-clause-served g c = λ t u.
     let later = subst (λ (k : Counts). NeverFalls k end) counts c.finish.ensures.later in
     let idle = subst (λ (k : Counts). IsIdle k end) counts c.finish.ensures.idle in
     subst (λ (n : ℕ). Replays print c.args.plan (g.R.Rig.device_size c.args.rig.now Disk) n script old new before end) (sym c.finish.ensures.status)
-    (stops_alone print c.args.plan (g.R.Rig.device_size c.args.rig.now Disk) script old before stop.Memory old new before end (falls_self before) later idle (stops_early print c.args.plan (g.R.Rig.device_size c.args.rig.now Disk) script old before stop.Memory before (falls_self before) (asks_early (plan_sizes c.args.plan (g.R.Rig.device_size c.args.rig.now Disk)) before before (omega arith) (omega arith) (omega arith) (omega arith) (omega arith) (omega arith) (omega arith)) refl (λ e. omega arith) (commands_some (blocks_of c.args.plan (g.R.Rig.device_size c.args.rig.now Disk)) script)) said)
+    (stops_alone print c.args.plan (g.R.Rig.device_size c.args.rig.now Disk) script old before stop.Memory old new before end (falls_self before) later idle (stops_early print c.args.plan (g.R.Rig.device_size c.args.rig.now Disk) script old before stop.Memory before (falls_self before) (asks_early (plan_sizes c.args.plan (g.R.Rig.device_size c.args.rig.now Disk)) before before (omega arith) (omega arith) (omega arith) (omega arith) (omega arith) (omega arith) (omega arith)) (λ e. absurd (cc)) (λ e. omega arith) (commands_some (blocks_of c.args.plan (g.R.Rig.device_size c.args.rig.now Disk)) script)) said)
 
 pub returns-in-Ok-served-clause-served : goal.returns-in-Ok-served-clause-served
 returns-in-Ok-served-clause-served g c = λ t u.
@@ -87,16 +87,16 @@ returns-in-Stopped-clause-served g c = λ t u.
     let between : Counts = g.R.Rig.counts c.serve_script.new.rig in
     let end : Counts = g.R.Rig.counts c.finish-in-Stopped.new.rig in
     let script : List ℕ = g.S.Source.rest c.args.source.now in
-    let failures = g.S.Source.failures in
+    let F : Type 0 = Rose (g.S.Source.failures c.args.source.now) (g.S.Source.failures c.serve_script.new.source) in
     let why = c.in-Stopped.why in
     let P : Type 0 = g.S.Source.tells → IsBounded c.args.plan (g.R.Rig.device_size c.args.rig.now Disk) script → ⊥ in
     let Q : Type 0 = IsBounded c.args.plan (g.R.Rig.device_size c.args.rig.now Disk) script → ⊥ in
-    let halts : Halts P (Stopped why) before between (failures c.args.source.now) (failures c.serve_script.new.source) = rw c.in-Stopped.is at (rw c.in-Err.is at c.in-Ok.ensures.halt) in
-    let halted : Halts Q (Stopped why) before between (failures c.args.source.now) (failures c.serve_script.new.source) = halts_by P Q (λ long. long u) (Stopped why) before between _ _ halts in
+    let halts : Halts F P (Stopped why) before between = rw c.in-Stopped.is at (rw c.in-Err.is at c.in-Ok.ensures.halt) in
+    let halted : Halts F Q (Stopped why) before between = halts_by F P F Q (λ f. f) (λ long. long u) (Stopped why) before between halts in
     let served : AnsweredUpTo print (plan_sizes c.args.plan (g.R.Rig.device_size c.args.rig.now Disk)) (replay_start c.args.plan (g.R.Rig.device_size c.args.rig.now Disk) old) (replay_commands c.args.plan (g.R.Rig.device_size c.args.rig.now Disk) script) (Stopped why) old.said middle.said before between = rw c.in-Stopped.is at (rw c.in-Err.is at (c.in-Ok.ensures.some t u)) in
     subst (λ (n : ℕ). Replays print c.args.plan (g.R.Rig.device_size c.args.rig.now Disk) n script old new before end) (sym c.finish-in-Stopped.ensures.status)
     (stops_alone print c.args.plan (g.R.Rig.device_size c.args.rig.now Disk) script old before why middle new between end c.serve_script.ensures.later c.finish-in-Stopped.ensures.later c.finish-in-Stopped.ensures.idle
-    (stops_served print c.args.plan (g.R.Rig.device_size c.args.rig.now Disk) script old before why middle between _ _ served halted) (c.finish-in-Stopped.ensures.said t))
+    (stops_served print c.args.plan (g.R.Rig.device_size c.args.rig.now Disk) script old before why F middle between served halted) (c.finish-in-Stopped.ensures.said t))
 
 pub returns-in-Stopped-clause-time : goal.returns-in-Stopped-clause-time
 returns-in-Stopped-clause-time g c = λ t. end_moment _ _ _ _ (g.R.Rig.world c.serve_script.new.rig) (c.serve_script.ensures.time t) (c.serve_script.ensures.others t) (c.finish-in-Stopped.ensures.time t)

@@ -6,12 +6,14 @@ use Rattle.dd_rig.specs.World.{World}
 use Rattle.dd_script.specs.Script.{commands_of, EndsWithin}
 use Rattle.dd_serve.specs.declared.scratch.Scratch.{Scratch}
 use Rattle.dd_serve.specs.declared.halt.Halt.{Halt}
+use Rattle.dd_rig.specs.Counts.{Rose}
 use Rattle.dd_serve.specs.Causes.{Halts}
+use Rattle.dd_serve.proofs.Causes.{halts_by}
 use Rattle.dd_serve.specs.Scratch.{Fits, IsSound, scratch_state, scratch_sizes}
 use Rattle.dd_script.specs.Reading.{Held, left, fuel, IsTakenTo}
 use Rattle.dd_serve.specs.Replays.{first_scratch, IsBounded}
 use Rattle.dd_serve.specs.Answering.{AnsweredAll, AnsweredUpTo}
-use Rattle.dd_serve.proofs.Starts.{first_some, first_fits, first_sound, halts_by}
+use Rattle.dd_serve.proofs.Starts.{first_some, first_fits, first_sound}
 use Rattle.dd_serve.proofs.replay.serve_script.Goals as goal
 
 pub serve-requires-clause-some : goal.serve-requires-clause-some
@@ -65,7 +67,7 @@ pub returns-clause-halt : goal.returns-clause-halt
 returns-clause-halt g c =
     let rest : List ℕ = g.S.Source.rest c.args.source.now in
     let counts = g.R.Rig.counts in
-    let failures = g.S.Source.failures in
+    let F : Type 0 = Rose (g.S.Source.failures c.args.source.now) (g.S.Source.failures c.serve.new.source) in
     let P : Type 0 = g.S.Source.tells → EndsWithin (fuel c.in_ok-reader.reader) c.in_ok-scratch.scratch.blocks (left c.in_ok-reader.reader rest) → ⊥ in
     let Q : Type 0 = g.S.Source.tells → IsBounded c.args.plan (g.R.Rig.device_size c.args.rig.now Disk) rest → ⊥ in
     let w : P → Q = λ long u within.
@@ -74,9 +76,9 @@ returns-clause-halt g c =
     long u (subst (λ (k : Scratch). EndsWithin (fuel c.in_ok-reader.reader) k.blocks (left c.in_ok-reader.reader rest)) scratch
     (subst (λ (h : Held). EndsWithin (fuel h) (first_scratch c.args.plan size).blocks (left h rest)) (sym c.in_ok-reader.ensures) within)) in
     IfErr-weaker c.serve.result
-    (λ (halt : Halt). Halts P halt (counts c.args.rig.now) (counts c.serve.new.rig) (failures c.args.source.now) (failures c.serve.new.source))
-    (λ (halt : Halt). Halts Q halt (counts c.args.rig.now) (counts c.serve.new.rig) (failures c.args.source.now) (failures c.serve.new.source))
-    (λ halt s. halts_by P Q w halt _ _ _ _ s) c.serve.ensures.halt
+    (λ (halt : Halt). Halts F P halt (counts c.args.rig.now) (counts c.serve.new.rig))
+    (λ (halt : Halt). Halts F Q halt (counts c.args.rig.now) (counts c.serve.new.rig))
+    (λ halt s. halts_by F P F Q (λ f. f) w halt _ _ s) c.serve.ensures.halt
 
 pub returns-clause-taken : goal.returns-clause-taken
 returns-clause-taken g c = λ u.
