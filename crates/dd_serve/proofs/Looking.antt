@@ -1,26 +1,28 @@
 -- The look at byte 0 of the flash, before a replay.
-use Rattle.std.proofs.Common.{◌≡◌, ◌∙◌, [], ap, arith, subst, sym}
+use Rattle.std.proofs.Common.{◌≡◌, [], ap, arith, subst, sym}
 use Rattle.std.specs.Prelude.{Result}
 use Rattle.dd_rig.specs.declared.device.Dev.TheVariants as dev
 use Rattle.dd_rig.specs.declared.tallies.Calls.{Calls}
 use Rattle.dd_rig.specs.declared.tallies.Counts.{Counts}
-use Rattle.dd_rig.specs.Counts.{NeverFalls, count_read}
+use Rattle.dd_rig.specs.Counts.{NeverFalls, Makes, up_to, nothing, count_read}
 use Rattle.dd_model.specs.State.{Sizes}
 use Rattle.dd_serve.specs.Calls.{AsksForLines, looked}
 use Rattle.dd_serve.proofs.Costs.{asks_early}
-use Rattle.dd_serve.specs.Saying.{IsIdle, OnlyLooks}
+use Rattle.dd_serve.specs.Saying.{IsIdle}
 
 -- one read of the flash, and no call of a device behind it
-pub only_looks : {T E : Type 0} (r : Result T E) (a b d : Counts) → b ≡ count_read dev.Flash r a → IsIdle b d → OnlyLooks a d
-only_looks r a b d looked idle = (
+pub one_look : {T E : Type 0} (r : Result T E) (a b d : Counts) → b ≡ count_read dev.Flash r a → IsIdle b d → Makes (up_to 1 0 0) nothing a d
+one_look r a b d looked idle = (
   (
-    ap (λ (k : Calls). k.writes) idle.0 ∙ ap (λ (k : Counts). k.flash.writes) looked,
-    ap (λ (k : Calls). k.written) idle.0 ∙ ap (λ (k : Counts). k.flash.written) looked,
-    ap (λ (k : Calls). k.writes) idle.1 ∙ ap (λ (k : Counts). k.disk.writes) looked,
-    ap (λ (k : Calls). k.written) idle.1 ∙ ap (λ (k : Counts). k.disk.written) looked,
+    omega (arith, ap (λ (k : Calls). k.reads) idle.0, ap (λ (k : Counts). k.flash.reads) looked),
+    omega (arith, ap (λ (k : Calls). k.writes) idle.0, ap (λ (k : Counts). k.flash.writes) looked),
+    omega (arith, ap (λ (k : Calls). k.written) idle.0, ap (λ (k : Counts). k.flash.written) looked),
   ),
-  omega (arith, ap (λ (k : Calls). k.reads) idle.0, ap (λ (k : Counts). k.flash.reads) looked),
-  ap (λ (k : Calls). k.reads) idle.1 ∙ ap (λ (k : Counts). k.disk.reads) looked,
+  (
+    omega (arith, ap (λ (k : Calls). k.reads) idle.1, ap (λ (k : Counts). k.disk.reads) looked),
+    omega (arith, ap (λ (k : Calls). k.writes) idle.1, ap (λ (k : Counts). k.disk.writes) looked),
+    omega (arith, ap (λ (k : Calls). k.written) idle.1, ap (λ (k : Counts). k.disk.written) looked),
+  ),
 )
 
 -- behind the look no count of failures has fallen

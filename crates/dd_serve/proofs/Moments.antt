@@ -6,7 +6,7 @@ use Rattle.dd_rig.specs.Clock.{Clock, Elapses, AddsNone}
 use Rattle.dd_rig.specs.Device.{IsOutside, IsImage}
 use Rattle.dd_rig.specs.World.{World, Outcome, WithinWrite, WithinEmit}
 use Rattle.dd_rig.proofs.Moments.{widens, goes_on}
-use Rattle.dd_recover.specs.Formatting.{IsOwn}
+use Rattle.dd_rig.specs.World.{IsOwn}
 use Rattle.dd_serve.specs.Scratch.{Scratched, KeepsDevices, IsWithin}
 
 -- a call that adds nothing

@@ -12,12 +12,15 @@ use Rattle.dd_rig.specs.World.{World, Outcome}
 use Rattle.dd_rig.proofs.Moments.{widens, goes_on}
 use Rattle.dd_recover.specs.declared.fault.FormatFault.{FormatFault}
 use Rattle.dd_recover.specs.declared.fault.FormatFault.TheVariants as fault
-use Rattle.dd_recover.specs.Formatting.{TellsSmall, TellsFault, IsUnusedOrFormatted, IsOwn}
+use Rattle.dd_recover.specs.Formatting.{TellsSmall, TellsFault, IsUnusedOrFormatted}
+use Rattle.dd_rig.specs.World.{IsOwn}
 use Rattle.dd_script.specs.declared.reply.Refusal.{Refusal}
 use Rattle.dd_script.specs.declared.reply.Refusal.TheVariants as refusal
-use Rattle.dd_script.specs.Text.{ended, reply_text}
+use Rattle.dd_script.specs.declared.reply.Stop.TheVariants as stop
+use Rattle.dd_script.specs.Text.{ended, stop_text}
 use Rattle.dd_serve.specs.Saying.{SaysAlone}
-use Rattle.dd_serve.specs.Formats.{reply_to, fault_status, FormatLeaves, Formats}
+use Rattle.dd_serve.specs.Ending.{SaysLast, ending_line, status_of}
+use Rattle.dd_serve.specs.Formats.{ending_of, FormatLeaves, Formats}
 use Rattle.dd_serve.specs.Refusing.{Refuses, StopsAtDevice}
 use Rattle.dd_serve.specs.declared.words.Asked.TheVariants.{Format}
 
@@ -26,10 +29,15 @@ pub says_sooner : (line : List ℕ) (a b d : Counts) (old middle new : World) �
 says_sooner line a b d old middle new fewer same (inl said) = inl (said ∙ ap (λ (l : List ℕ). l ++ ended line) same)
 says_sooner line a b d old middle new fewer same (inr (rose, n, said)) = inr (omega (arith, rose), n, said ∙ ap (λ (l : List ℕ). l ++ take n (ended line)) same)
 
+-- the same of the last line, where there is one
+pub last_sooner : (o : Option (List ℕ)) (a b d : Counts) (old middle new : World) → a.failed_emits ≤ b.failed_emits → middle.said ≡ old.said → SaysLast o b d middle new → SaysLast o a d old new
+last_sooner None a b d old middle new fewer same said = said ∙ same
+last_sooner (Some line) a b d old middle new fewer same said = says_sooner line a b d old middle new fewer same said
+
 -- what a fault of a format says and answers is the first condition's, where byte 0 is 1 or isn't
 pub refuses_fault : (why : FormatFault) (used : Bool) (a d : Counts) (old new : World) → TellsSmall (Err why) None → TellsFault (Err why) (if used then Some fault.InUse else None)
-    → (why ≡ fault.FlashRead → Rose a.flash.failed_reads d.flash.failed_reads) → SaysAlone (reply_text (reply_to why)) a d old new
-    → Refuses (if used then Some refusal.InUse else None) (fault_status why) a d old new
+    → (why ≡ fault.FlashRead → Rose a.flash.failed_reads d.flash.failed_reads) → SaysLast (ending_line (ending_of why)) a d old new
+    → Refuses (if used then Some refusal.InUse else None) (status_of (ending_of why)) a d old new
 refuses_fault (fault.FlashSmall need have) used a d old new small first rose says = absurd (cc)
 refuses_fault (fault.DiskSmall need have) used a d old new small first rose says = absurd (cc)
 refuses_fault fault.InUse true a d old new small first rose says = inl (refl, says)
@@ -54,13 +62,13 @@ small_none false false x y v w e = refl
 -- the device whose call failed is the one that the line names
 pub device_fault : (why : FormatFault) (geo : Geometry) (Says : List ℕ → Type 0) (a d : Counts)
     → (why ≡ fault.FlashRead → Rose a.flash.failed_reads d.flash.failed_reads) → (why ≡ fault.FlashWrite → Rose a.flash.failed_writes d.flash.failed_writes)
-    → (why ≡ fault.DiskWrite → Rose a.disk.failed_writes d.disk.failed_writes) → Says (reply_text (reply_to why)) → fault_status why ≡ 7 → StopsAtDevice (Format geo) Says a d
+    → (why ≡ fault.DiskWrite → Rose a.disk.failed_writes d.disk.failed_writes) → ((line : List ℕ) → ending_line (ending_of why) ≡ Some line → Says line) → status_of (ending_of why) ≡ 7 → StopsAtDevice (Format geo) Says a d
 device_fault (fault.FlashSmall need have) geo Says a d read write disk says e = absurd (omega (arith, e))
 device_fault (fault.DiskSmall need have) geo Says a d read write disk says e = absurd (omega (arith, e))
 device_fault fault.InUse geo Says a d read write disk says e = absurd (omega (arith, e))
-device_fault fault.FlashRead geo Says a d read write disk says e = inl (inl (read refl), says)
-device_fault fault.FlashWrite geo Says a d read write disk says e = inl (inr (write refl), says)
-device_fault fault.DiskWrite geo Says a d read write disk says e = inr (disk refl, says)
+device_fault fault.FlashRead geo Says a d read write disk says e = inl (inl (read refl), says (stop_text stop.Flash) refl)
+device_fault fault.FlashWrite geo Says a d read write disk says e = inl (inr (write refl), says (stop_text stop.Flash) refl)
+device_fault fault.DiskWrite geo Says a d read write disk says e = inr (disk refl, says (stop_text stop.Disk) refl)
 
 -- a crash within a format, or within its line
 pub format_leaves : (geo : Geometry) (old middle : World) (first second last : Clock) → ((print : List ℕ → Fp) → Elapses first second (λ o. IsUnusedOrFormatted print geo old o.flash o.disk))
@@ -71,7 +79,7 @@ format_leaves geo old middle first second last crash now line = λ print.
     let formats : Elapses first second P = widens (crash print) (λ o left. inr left) in
     goes_on {P = P} {Q = λ o. IsOwn middle o.flash o.disk} formats line (λ o own. now print o.flash o.disk own.0 own.1)
 
-fault_fails : (why : FormatFault) → (fault_status why ≡ 0 → ⊥) × (fault_status why ≡ 6 → ⊥)
+fault_fails : (why : FormatFault) → (status_of (ending_of why) ≡ 0 → ⊥) × (status_of (ending_of why) ≡ 6 → ⊥)
 fault_fails (fault.FlashSmall need have) = (λ e. omega (arith, e), λ e. omega (arith, e))
 fault_fails (fault.DiskSmall need have) = (λ e. omega (arith, e), λ e. omega (arith, e))
 fault_fails fault.InUse = (λ e. omega (arith, e), λ e. omega (arith, e))
@@ -80,7 +88,7 @@ fault_fails fault.FlashWrite = (λ e. omega (arith, e), λ e. omega (arith, e))
 fault_fails fault.DiskWrite = (λ e. omega (arith, e), λ e. omega (arith, e))
 
 -- a format that failed promises nothing of a line or of the devices
-pub formats_none : (why : FormatFault) (geo : Geometry) (a d : Counts) (old new : World) → Formats geo (fault_status why) a d old new
+pub formats_none : (why : FormatFault) (geo : Geometry) (a d : Counts) (old new : World) → Formats geo (status_of (ending_of why)) a d old new
 formats_none why geo a d old new = record {
   exact = λ e. absurd ((fault_fails why).0 e);
   cut = λ e. absurd ((fault_fails why).1 e);

@@ -4,7 +4,7 @@ use Rattle.std.specs.Prelude.{Option}
 use Rattle.dd_block.specs.declared.print.Fp.{Fp}
 use Rattle.dd_block.specs.declared.geometry.Geometry.{Geometry}
 use Rattle.dd_rig.specs.declared.device.Dev.{Dev}
-use Rattle.dd_rig.specs.declared.device.Dev.TheVariants.{Flash}
+use Rattle.dd_rig.specs.declared.device.Dev.TheVariants.{Flash, Disk}
 use Rattle.dd_rig.specs.declared.tallies.Counts.{Counts}
 use Rattle.dd_rig.specs.Counts.{IsQuiet, IsStill, Rose}
 use Rattle.dd_rig.specs.World.{World, shown}
@@ -59,10 +59,10 @@ not_refused o status before after old new e h = let R : Option Refusal → Type 
 -- a run in which no call fails
 pub ends_well : (print : List ℕ → Fp) (asked : Asked) (status : ℕ) (tells script_tells : Type 0) (Says : List ℕ → Type 0) (size : Dev → ℕ) (script : List ℕ) (before after : Counts) (old new : World) (m n : ℕ) → tells
     → IsCaused asked status Says before after m n → IsRefused asked status tells size before after old new → Shows print asked status script_tells size script before after old new
-    → IsQuiet before after → refusal_for asked size (shown Flash old) ≡ None → EndsWell asked status (script_tells × IsStill m n) old script
+    → IsQuiet before after → refusal_for asked size (shown Flash old) ≡ None → EndsWell asked status (script_tells × IsStill m n) (size Disk) script
 ends_well print (Replay plan) status tells script_tells Says size script before after old new m n t caused refused shows quiet first = λ calm bounded.
     let three = not_refused (refusal_for (Replay plan) size (shown Flash old)) status before after old new first (refused.first t) in
-    quiet_status print plan status script old new (looked before) after m n caused.is_status.0 caused.is_status.1 three caused.script caused.emit
+    quiet_status print plan (size Disk) status script old new (looked before) after m n caused.is_status.0 caused.is_status.1 three caused.script caused.emit
     (λ seven. replay_failed plan Says before after (caused.device seven)) (shows.1 calm.0 first)
     (record { flash_reads = quiet.flash_reads; flash_writes = quiet.flash_writes; disk_reads = quiet.disk_reads; disk_writes = quiet.disk_writes; emits = quiet.emits }) calm.1 bounded
 ends_well print (Format geo) status tells script_tells Says size script before after old new m n t caused refused shows quiet first =

@@ -1,51 +1,34 @@
 -- A format: what its status says, and what a crash may leave.
-use Rattle.std.specs.Prelude.{◌≡◌, ◌⊎◌, ◌≤◌, ◌+◌, ◌++◌, ℕ, List}
+use Rattle.std.specs.Prelude.{◌≡◌, ◌⊎◌, ◌++◌, ℕ, List}
 use Rattle.dd_block.specs.declared.print.Fp.{Fp}
 use Rattle.dd_block.specs.declared.geometry.Geometry.{Geometry}
 use Rattle.dd_rig.specs.declared.tallies.Counts.{Counts}
 use Rattle.dd_rig.specs.Clock.{Clock, Elapses}
 use Rattle.dd_rig.specs.Device.{IsImage}
-use Rattle.dd_rig.specs.World.{World}
-use Rattle.dd_recover.specs.Formatting.{IsFormatted, IsUnusedOrFormatted, IsOwn}
+use Rattle.dd_rig.specs.World.{World, IsOwn}
+use Rattle.dd_recover.specs.Formatting.{IsFormatted, IsUnusedOrFormatted}
 use Rattle.dd_recover.specs.declared.fault.FormatFault.{FormatFault}
 use Rattle.dd_recover.specs.declared.fault.FormatFault.TheVariants as fault
-use Rattle.dd_script.specs.declared.reply.Reply.{Reply}
 use Rattle.dd_script.specs.declared.reply.Reply.TheVariants as reply
 use Rattle.dd_script.specs.declared.reply.Refusal.TheVariants as refusal
 use Rattle.dd_script.specs.declared.reply.Stop.TheVariants as stop
 use Rattle.dd_script.specs.Text.{ended, reply_text}
+use Rattle.dd_serve.specs.declared.ending.Ending.{Ending}
+use Rattle.dd_serve.specs.declared.ending.Ending.TheVariants.{Refused, Stopped}
 use Rattle.dd_serve.specs.Saying.{SaysAlone}
 
--- the last line of a format that failed
-abbrev pub reply_to : FormatFault → Reply
-reply_to (fault.FlashSmall need have) = reply.Refused (refusal.FlashSmall need have)
-reply_to (fault.DiskSmall need have) = reply.Refused (refusal.DiskSmall need have)
-reply_to fault.InUse = reply.Refused refusal.InUse
-reply_to fault.FlashRead = reply.Stopped stop.Flash
-reply_to fault.FlashWrite = reply.Stopped stop.Flash
-reply_to fault.DiskWrite = reply.Stopped stop.Disk
-
--- and its status
-abbrev pub fault_status : FormatFault → ℕ
-fault_status (fault.FlashSmall need have) = 3
-fault_status (fault.DiskSmall need have) = 3
-fault_status fault.InUse = 3
-fault_status fault.FlashRead = 7
-fault_status fault.FlashWrite = 7
-fault_status fault.DiskWrite = 7
+-- how a format ends that failed
+abbrev pub ending_of : FormatFault → Ending
+ending_of (fault.FlashSmall need have) = Refused (refusal.FlashSmall need have)
+ending_of (fault.DiskSmall need have) = Refused (refusal.DiskSmall need have)
+ending_of fault.InUse = Refused refusal.InUse
+ending_of fault.FlashRead = Stopped stop.Flash
+ending_of fault.FlashWrite = Stopped stop.Flash
+ending_of fault.DiskWrite = Stopped stop.Disk
 
 -- how a format may end
 abbrev pub IsFormatStatus : ℕ → Type 0
 IsFormatStatus status = (status ≡ 0) ⊎ (status ≡ 3) ⊎ (status ≡ 6) ⊎ (status ≡ 7)
-
--- a format makes at most one read of the flash, seven writes and syncs of it with 99 bytes together, and one sync of the disk
-pub record CallsOfFormat (before after : Counts) : Type 0 where
-  pub flash_reads : after.flash.reads ≤ before.flash.reads + 1
-  pub flash_writes : after.flash.writes ≤ before.flash.writes + 7
-  pub flash_written : after.flash.written ≤ before.flash.written + 99
-  pub disk_reads : after.disk.reads ≡ before.disk.reads
-  pub disk_writes : after.disk.writes ≤ before.disk.writes + 1
-  pub disk_written : after.disk.written ≡ before.disk.written
 
 -- whatever a crash leaves now stands for the disk's array, empty lists and no references
 abbrev pub AreFormatted : Geometry → (old new : World) → Type 0

@@ -4,7 +4,7 @@ use Rattle.std.specs.Option.{option_or}
 use Rattle.dd_rig.specs.declared.device.Dev.{Dev}
 use Rattle.dd_rig.specs.declared.device.Dev.TheVariants as dev
 use Rattle.dd_rig.specs.declared.tallies.Counts.{Counts}
-use Rattle.dd_rig.specs.Counts.{Rose}
+use Rattle.dd_rig.specs.Counts.{Rose, Makes, up_to, nothing}
 use Rattle.dd_rig.specs.World.{World}
 use Rattle.dd_layout.specs.Layout.{flash_need, disk_need}
 use Rattle.dd_script.specs.declared.reply.Stop.TheVariants as stop
@@ -13,7 +13,7 @@ use Rattle.dd_script.specs.declared.reply.Refusal.TheVariants as refusal
 use Rattle.dd_script.specs.Text.{stop_text, refusal_text}
 use Rattle.dd_serve.specs.declared.words.Asked.{Asked}
 use Rattle.dd_serve.specs.declared.words.Asked.TheVariants.{Replay, Format}
-use Rattle.dd_serve.specs.Saying.{SaysAlone, OnlyLooks}
+use Rattle.dd_serve.specs.Saying.{SaysAlone}
 
 -- what the flash has to hold for what is asked
 abbrev pub flash_needs : Asked → ℕ
@@ -50,6 +50,6 @@ Refuses (Some why) status before after old new = ((status ≡ 3) × SaysAlone (r
 -- In a format the line names the device whose call failed.
 abbrev pub StopsAtDevice : Asked → (Says : List ℕ → Type 0) → Counts → Counts → Type 0
 StopsAtDevice (Replay plan) Says before after = Rose before.flash.failed_writes after.flash.failed_writes
-    ⊎ (Rose before.flash.failed_reads after.flash.failed_reads × Says (stop_text stop.Flash) × OnlyLooks before after)
+    ⊎ (Rose before.flash.failed_reads after.flash.failed_reads × Says (stop_text stop.Flash) × Makes (up_to 1 0 0) nothing before after)
 StopsAtDevice (Format geo) Says before after = ((Rose before.flash.failed_reads after.flash.failed_reads ⊎ Rose before.flash.failed_writes after.flash.failed_writes) × Says (stop_text stop.Flash))
     ⊎ (Rose before.disk.failed_writes after.disk.failed_writes × Says (stop_text stop.Disk))

@@ -7,7 +7,6 @@ use Rattle.dd_rig.specs.declared.tallies.Counts.{Counts}
 use Rattle.dd_rig.specs.Counts.{IsStill, Rose, plus}
 use Rattle.dd_rig.specs.World.{World, shown}
 use Rattle.dd_model.specs.State.{Sizes, State, array_of, fresh}
-use Rattle.dd_script.specs.declared.reply.Stop.{Stop}
 use Rattle.dd_script.specs.declared.reply.Stop.TheVariants as stop
 use Rattle.dd_script.specs.Command.{Command}
 use Rattle.dd_script.specs.Script.{lines_of, commands_of, EndsWithin}
@@ -18,33 +17,31 @@ use Rattle.dd_serve.specs.declared.words.Plan.{Plan}
 use Rattle.dd_serve.specs.declared.scratch.Scratch.{Scratch}
 use Rattle.dd_serve.specs.Calls.{AsksForLines, loads_in, unfinished}
 
--- how many blocks a disk of that size has
-abbrev pub blocks_of : Plan → ℕ → ℕ
-blocks_of plan size = min (size / plan.block) 16777216
+-- no more blocks than these are numbered
+abbrev pub most_blocks : ℕ
+most_blocks = 16777216
 
-abbrev pub plan_sizes : Plan → ℕ → Sizes
+-- how many blocks a disk of that size has
+abbrev pub blocks_of : Plan → (disk : ℕ) → ℕ
+blocks_of plan disk = min (disk / plan.block) most_blocks
+
+abbrev pub plan_sizes : Plan → (disk : ℕ) → Sizes
 plan_sizes plan disk = record { block = plan.block; blocks = blocks_of plan disk; acap = plan.acap; bcap = plan.bcap }
 
 -- the array as the disk shows it, and empty lists
-abbrev pub replay_start : Plan → World → State
-replay_start plan world = fresh (array_of plan.block (blocks_of plan (length (shown dev.Disk world))) (shown dev.Disk world))
+abbrev pub replay_start : Plan → (disk : ℕ) → World → State
+replay_start plan disk world = fresh (array_of plan.block (blocks_of plan disk) (shown dev.Disk world))
 
-abbrev pub replay_sizes : Plan → World → Sizes
-replay_sizes plan world = plan_sizes plan (length (shown dev.Disk world))
-
-abbrev pub replay_blocks : Plan → World → ℕ
-replay_blocks plan world = blocks_of plan (length (shown dev.Disk world))
-
-abbrev pub replay_commands : Plan → World → List ℕ → List Command
-replay_commands plan world script = commands_of (replay_blocks plan world) script
+abbrev pub replay_commands : Plan → (disk : ℕ) → List ℕ → List Command
+replay_commands plan disk script = commands_of (blocks_of plan disk) script
 
 -- what a replay of a script prints, where no call fails
-abbrev pub replay_output : (List ℕ → Fp) → Plan → World → List ℕ → List ℕ
-replay_output print plan world script = output print (replay_sizes plan world) (replay_start plan world) script
+abbrev pub replay_output : (List ℕ → Fp) → Plan → (disk : ℕ) → World → List ℕ → List ℕ
+replay_output print plan disk world script = output print (plan_sizes plan disk) (replay_start plan disk world) script
 
 -- a script has fewer than 2^40 bytes, or a whole line q among so many
-abbrev pub IsBounded : Plan → World → List ℕ → Type 0
-IsBounded plan world script = EndsWithin 1099511627776 (replay_blocks plan world) script
+abbrev pub IsBounded : Plan → (disk : ℕ) → List ℕ → Type 0
+IsBounded plan disk script = EndsWithin 1099511627776 (blocks_of plan disk) script
 
 -- the scratch of a replay at its start
 abbrev pub first_scratch : Plan → ℕ → Scratch
@@ -64,14 +61,6 @@ said_since old new = drop (length old.said) new.said
 abbrev pub lines_since : World → World → List (List ℕ)
 lines_since old new = (lines_of (said_since old new)).whole
 
--- the status of a run that stops
-abbrev pub status_of : Stop → ℕ
-status_of stop.Memory = 4
-status_of stop.Script = 5
-status_of stop.Flash = 7
-status_of stop.Disk = 7
-status_of stop.Length = 8
-
 -- the line with which a run ends that stops with this status
 abbrev pub last_line : ℕ → Option (List ℕ)
 last_line status =
@@ -86,26 +75,26 @@ abbrev pub EndsIn : List ℕ → List ℕ → Counts → Counts → Type 0
 EndsIn line output before after = (front : List (List ℕ)) × AllByRecursion HasNoEnd front ×
     ((output ≡ flat_map ended (front ++ line ∷ [])) ⊎ (Rose before.failed_emits after.failed_emits × (n : ℕ) × (output ≡ flat_map ended front ++ take n (ended line))))
 
--- What a replay of a script says, whatever fails, and what its status says of that.
-pub record Replays (print : List ℕ → Fp) (plan : Plan) (status : ℕ) (script : List ℕ) (old new : World) (before after : Counts) : Type 0 where
+-- What a replay of a script says over a disk of that size, whatever fails, and what its status says of that.
+pub record Replays (print : List ℕ → Fp) (plan : Plan) (disk : ℕ) (status : ℕ) (script : List ℕ) (old new : World) (before after : Counts) : Type 0 where
   -- the output goes on
   pub said : new.said ≡ old.said ++ said_since old new
   -- its whole lines answer the commands one by one, and behind them stands a part of one more
-  pub answers : Answers print (replay_sizes plan old) (replay_start plan old) (replay_commands plan old script) (said_since old new)
+  pub answers : Answers print (plan_sizes plan disk) (replay_start plan disk old) (replay_commands plan disk script) (said_since old new)
   -- it has no such part where no emit failed
   pub whole : IsStill before.failed_emits after.failed_emits → (lines_of (said_since old new)).rest ≡ []
   -- with 0 and 1 each command is answered, with 0 by the definition's reply
-  pub all : status ≤ 1 → AnswersAll print (replay_sizes plan old) (replay_start plan old) (replay_commands plan old script) (said_since old new)
-  pub exact : status ≡ 0 → said_since old new ≡ replay_output print plan old script
+  pub all : status ≤ 1 → AnswersAll print (plan_sizes plan disk) (replay_start plan disk old) (replay_commands plan disk script) (said_since old new)
+  pub exact : status ≡ 0 → said_since old new ≡ replay_output print plan disk old script
   -- 1 comes only with a fault line, and no more fault lines come than reads failed
   pub fault : status ≡ 1 → 0 < faults_in dev.Flash (lines_since old new) + faults_in dev.Disk (lines_since old new)
   pub flash_faults : plus before.flash.failed_reads (faults_in dev.Flash (lines_since old new)) ≤ after.flash.failed_reads
   pub disk_faults : plus before.disk.failed_reads (faults_in dev.Disk (lines_since old new)) ≤ after.disk.failed_reads
   -- no more calls were made than the lines say, and with 0 the disk was read for joins and misses alone, once each
-  pub asks : AsksForLines (replay_sizes plan old) (lines_since old new) (unfinished status) before after
+  pub asks : AsksForLines (plan_sizes plan disk) (lines_since old new) (unfinished status) before after
   pub loads : status ≡ 0 → after.disk.reads ≤ before.disk.reads + loads_in (lines_since old new)
   -- a run that stops ends with the line of its status, which is whole where no emit failed
   pub last : IfSome (last_line status) (λ line. EndsIn line (said_since old new) before after)
   -- 8 comes where the script has too many bytes, and 0 and 1 only where it hasn't
-  pub bounded : status ≤ 1 → IsBounded plan old script
-  pub long : status ≡ 8 → IsBounded plan old script → ⊥
+  pub bounded : status ≤ 1 → IsBounded plan disk script
+  pub long : status ≡ 8 → IsBounded plan disk script → ⊥

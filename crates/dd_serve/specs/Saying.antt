@@ -1,10 +1,9 @@
 -- What a run has said and asked of its devices.
-use Rattle.std.specs.Prelude.{◌≡◌, ◌⊎◌, ◌≤◌, ◌+◌, ℕ, List, ◌++◌, take}
+use Rattle.std.specs.Prelude.{◌≡◌, ◌⊎◌, ℕ, List, ◌++◌, take}
 use Rattle.dd_rig.specs.declared.tallies.Counts.{Counts}
 use Rattle.dd_rig.specs.Counts.{Rose}
 use Rattle.dd_rig.specs.declared.device.Dev.TheVariants.{Flash}
 use Rattle.dd_rig.specs.World.{World, shown}
-use Rattle.dd_recover.specs.Formatting.{IsUnwritten}
 use Rattle.dd_script.specs.Text.{ended}
 
 -- that line alone was said, or an emit failed and a part of it was
@@ -15,10 +14,6 @@ SaysAlone line before after old new =
 -- no call was made on a device
 abbrev pub IsIdle : Counts → Counts → Type 0
 IsIdle before after = (after.flash ≡ before.flash) × (after.disk ≡ before.disk)
-
--- no write and no sync was made on a device, and no read but one of the flash
-abbrev pub OnlyLooks : Counts → Counts → Type 0
-OnlyLooks before after = IsUnwritten before after × (after.flash.reads ≤ before.flash.reads + 1) × (after.disk.reads ≡ before.disk.reads)
 
 -- what a read gives of the first 64 bytes of the flash
 abbrev pub front_of : World → List ℕ

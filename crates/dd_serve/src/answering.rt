@@ -12,6 +12,7 @@ ghost use Rattle.dd_serve.specs.Calls.{AsksFor};
 ghost use Rattle.dd_serve.specs.Causes.{Caused, Halts, stop_of};
 ghost use Rattle.dd_serve.specs.Scratch.{Fits, IsSound, OnlyFlash, Scratched, IsWithin, KeepsDevices, scratch_state, scratch_sizes};
 ghost use Rattle.dd_script.specs.Reading.{left, fuel, quits, IsTakenTo};
+ghost use Rattle.dd_script.specs.Text.{reply_room};
 ghost use Rattle.dd_serve.specs.Saying.{IsIdle};
 ghost use Rattle.dd_serve.specs.Answering.{AnswersLine, WritesAnswer, WritesLine, HaltsByFlash, CutsLine, AnsweredAll, AnsweredUpTo};
 
@@ -41,7 +42,7 @@ pub fn serve<F: Fingerprint, R: Rig, S: Source>(
     other: &mut [u8],
     text: &mut [u8],
 ) -> Result<bool, Halt>
-    requires text { length text.old ≡ 8448 }
+    requires text { length text.old ≡ reply_room }
     requires size { (length block.old ≡ scratch.old.block) × (length other.old ≡ scratch.old.block) }
     requires some { 0 < scratch.old.blocks }
     requires count { scratch.old.count + fuel reader.old + 1 < 2 ^ 64 }
@@ -102,7 +103,7 @@ fn answer_line<F: Fingerprint, R: Rig>(
     text: &mut [u8],
 ) -> Result<bool, Halt>
     requires below { IsBelow scratch.old.blocks said }
-    requires text { length text.old ≡ 8448 }
+    requires text { length text.old ≡ reply_room }
     requires size { (length block.old ≡ scratch.old.block) × (length other.old ≡ scratch.old.block) }
     requires count { scratch.old.count + 1 < 2 ^ 64 }
     requires fits { Fits scratch.old (R.device_size rig.old) }
@@ -140,13 +141,13 @@ fn write_answer<F: Fingerprint, R: Rig>(
     text: &mut [u8],
 ) -> Result<Option<Written>, Halt>
     requires below { IsBelow scratch.old.blocks said }
-    requires text { length text.old ≡ 8448 }
+    requires text { length text.old ≡ reply_room }
     requires size { (length block.old ≡ scratch.old.block) × (length other.old ≡ scratch.old.block) }
     requires count { scratch.old.count + 1 < 2 ^ 64 }
     requires fits { Fits scratch.old (R.device_size rig.old) }
     requires sound { R.tells → IsSound (F.printed print.now) scratch.old (R.world rig.old) }
     ensures answer { R.tells → IfOk result (λ written. WritesAnswer (F.printed print.now) (scratch_sizes scratch.old) (told said) written text.new (scratch_state scratch.old (R.world rig.old)) (scratch_state scratch.new (R.world rig.new)) (R.counts rig.old) (R.counts rig.new)) }
-    ensures room { IfOk result (λ written. IfSome written (λ a. a.size ≤ 8448)) }
+    ensures room { IfOk result (λ written. IfSome written (λ a. a.size ≤ reply_room)) }
     ensures sound { R.tells → OnOk result (IsSound (F.printed print.now) scratch.new (R.world rig.new)) }
     ensures fits { OnOk result (Fits scratch.new (R.device_size rig.new)) }
     ensures sizes { OnOk result ((scratch_sizes scratch.new ≡ scratch_sizes scratch.old) × (scratch.new.count ≤ scratch.old.count + 1)) }
@@ -185,13 +186,13 @@ fn write_read<F: Fingerprint, R: Rig>(
     text: &mut [u8],
 ) -> Result<Written, Halt>
     requires below { address < scratch.old.blocks }
-    requires text { length text.old ≡ 8448 }
+    requires text { length text.old ≡ reply_room }
     requires size { (length block.old ≡ scratch.old.block) × (length other.old ≡ scratch.old.block) }
     requires count { scratch.old.count + 1 < 2 ^ 64 }
     requires fits { Fits scratch.old (R.device_size rig.old) }
     requires sound { R.tells → IsSound (F.printed print.now) scratch.old (R.world rig.old) }
     ensures answer { R.tells → IfOk result (λ written. WritesLine (F.printed print.now) (scratch_sizes scratch.old) (read address) written text.new (scratch_state scratch.old (R.world rig.old)) (scratch_state scratch.new (R.world rig.new)) (R.counts rig.old) (R.counts rig.new)) }
-    ensures room { IfOk result (λ written. written.size ≤ 8448) }
+    ensures room { IfOk result (λ written. written.size ≤ reply_room) }
     ensures sound { R.tells → OnOk result (IsSound (F.printed print.now) scratch.new (R.world rig.new)) }
     ensures fits { OnOk result (Fits scratch.new (R.device_size rig.new)) }
     ensures sizes { OnOk result ((scratch_sizes scratch.new ≡ scratch_sizes scratch.old) × (scratch.new.count ≤ scratch.old.count + 1)) }

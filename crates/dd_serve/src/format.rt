@@ -1,21 +1,20 @@
 // Formatting the flash.
 ghost use Rattle.std.specs.Prelude.{◌≡◌, ◌⊎◌, ◌+◌, ◌++◌, None, ℕ};
 ghost use Rattle.dd_rig.specs.Clock.{Elapses};
-ghost use Rattle.dd_rig.specs.Counts.{Rose};
+ghost use Rattle.dd_rig.specs.Counts.{Rose, Makes, up_to, nothing};
 ghost use Rattle.dd_rig.specs.declared.device.Dev.TheVariants.{Flash as FlashDevice, Disk as DiskDevice};
-ghost use Rattle.dd_rig.specs.World.{World, shown};
+ghost use Rattle.dd_rig.specs.World.{IsOwn, World, shown};
 ghost use Rattle.dd_rig.specs.Leaves.{SameOutside};
 ghost use Rattle.dd_journal.specs.Sitting.{regions_size};
-ghost use Rattle.dd_recover.specs.Formatting.{IsOwn};
 ghost use Rattle.dd_script.specs.declared.reply.Reply.TheVariants as reply;
 ghost use Rattle.dd_script.specs.Text.{ended, reply_text};
-ghost use Rattle.dd_serve.specs.Saying.{IsIdle, OnlyLooks, SaysAlone};
-ghost use Rattle.dd_serve.specs.Formats.{CallsOfFormat, Formats, FormatLeaves, IsFormatStatus, reply_to, fault_status};
+ghost use Rattle.dd_serve.specs.Saying.{IsIdle, SaysAlone};
+ghost use Rattle.dd_serve.specs.Formats.{Formats, FormatLeaves, IsFormatStatus, ending_of};
 ghost use Rattle.dd_serve.specs.Refusing.{Refuses, StopsAtDevice, small_for, refusal_for};
 ghost use Rattle.dd_serve.specs.declared.words.Asked.TheVariants.{Format};
 
 use crate::answering::say;
-use crate::last_line::end;
+use crate::ending::{Ending, finish};
 use dd_block::Geometry;
 use dd_recover::{FormatFault, format_flash};
 use dd_rig::Rig;
@@ -28,8 +27,8 @@ pub fn run_format<R: Rig>(geo: Geometry, rig: &mut R) -> u8
     ensures refused { R.tells → Refuses (refusal_for (Format geo) (R.device_size rig.old) (shown FlashDevice (R.world rig.old))) result (R.counts rig.old) (R.counts rig.new) (R.world rig.old) (R.world rig.new) }
     ensures emit { result ≡ 6 → Rose (R.counts rig.old).failed_emits (R.counts rig.new).failed_emits }
     ensures device { result ≡ 7 → StopsAtDevice (Format geo) (λ line. R.tells → SaysAlone line (R.counts rig.old) (R.counts rig.new) (R.world rig.old) (R.world rig.new)) (R.counts rig.old) (R.counts rig.new) }
-    ensures looks { result ≡ 3 → OnlyLooks (R.counts rig.old) (R.counts rig.new) }
-    ensures calls { CallsOfFormat (R.counts rig.old) (R.counts rig.new) }
+    ensures looks { result ≡ 3 → Makes (up_to 1 0 0) nothing (R.counts rig.old) (R.counts rig.new) }
+    ensures calls { Makes (up_to 1 7 99) (up_to 0 1 0) (R.counts rig.old) (R.counts rig.new) }
     ensures formatted { R.tells → Formats geo result (R.counts rig.old) (R.counts rig.new) (R.world rig.old) (R.world rig.new) }
     ensures crash { R.tells → FormatLeaves geo (R.world rig.old) (R.clock rig.old) (R.clock rig.new) }
     ensures outside { R.tells → SameOutside 0 (64 + regions_size geo) (shown FlashDevice (R.world rig.old)) (shown FlashDevice (R.world rig.new)) }
@@ -37,7 +36,7 @@ pub fn run_format<R: Rig>(geo: Geometry, rig: &mut R) -> u8
 {
     match format_flash(rig, geo) {
         Ok(()) => say_formatted(rig),
-        Err(fault) => end(rig, reply_to(fault), fault_status(fault)),
+        Err(fault) => finish(rig, ending_of(fault)),
     }
 }
 
@@ -54,32 +53,24 @@ fn say_formatted<R: Rig>(rig: &mut R) -> u8
     let mut text = [0u8; REPLY_ROOM];
     let size = write_reply(Reply::Formatted, &mut text);
     match say(rig, &text[..size]) {
-        Ok(()) => 0,
-        Err(_) => 6,
+        Ok(()) => finish(rig, Ending::Served { faulted: false }),
+        Err(_) => finish(rig, Ending::Unheard),
     }
 }
 
-// The last line of a format that failed.
-fn reply_to(fault: FormatFault) -> Reply
-    ensures { result ≡ reply_to fault }
+// How a format ends that failed.
+fn ending_of(fault: FormatFault) -> Ending
+    ensures { result ≡ ending_of fault }
 {
     match fault {
         FormatFault::FlashSmall { need, have } => {
-            Reply::Refused(Refusal::FlashSmall { need, have })
+            Ending::Refused(Refusal::FlashSmall { need, have })
         }
-        FormatFault::DiskSmall { need, have } => Reply::Refused(Refusal::DiskSmall { need, have }),
-        FormatFault::InUse => Reply::Refused(Refusal::InUse),
-        FormatFault::FlashRead | FormatFault::FlashWrite => Reply::Stopped(Stop::Flash),
-        FormatFault::DiskWrite => Reply::Stopped(Stop::Disk),
-    }
-}
-
-// And its status.
-fn fault_status(fault: FormatFault) -> u8
-    ensures { result ≡ fault_status fault }
-{
-    match fault {
-        FormatFault::FlashSmall { .. } | FormatFault::DiskSmall { .. } | FormatFault::InUse => 3,
-        FormatFault::FlashRead | FormatFault::FlashWrite | FormatFault::DiskWrite => 7,
+        FormatFault::DiskSmall { need, have } => {
+            Ending::Refused(Refusal::DiskSmall { need, have })
+        }
+        FormatFault::InUse => Ending::Refused(Refusal::InUse),
+        FormatFault::FlashRead | FormatFault::FlashWrite => Ending::Stopped(Stop::Flash),
+        FormatFault::DiskWrite => Ending::Stopped(Stop::Disk),
     }
 }

@@ -1,6 +1,6 @@
 // Serving the reads of a script, with the flash as scratch.
 ghost use Rattle.std.specs.Prelude.{◌≡◌, ◌≢◌, ◌⊎◌, ◌==◌, ◌≤◌, None, ℕ, slice_index, IfOk, OnOk, OnErr, IfErr};
-ghost use Rattle.dd_rig.specs.Counts.{Frame, Rose, NeverFalls, count_read};
+ghost use Rattle.dd_rig.specs.Counts.{Frame, Rose, NeverFalls, count_read, Makes, up_to, nothing};
 ghost use Rattle.dd_rig.specs.declared.device.Dev.TheVariants.{Flash as FlashDevice, Disk as DiskDevice};
 ghost use Rattle.dd_rig.specs.World.{shown};
 ghost use Rattle.dd_script.specs.Reading.{IsTakenTo};
@@ -12,19 +12,19 @@ ghost use Rattle.dd_serve.specs.Words.{IsPlan};
 ghost use Rattle.dd_rig.specs.Clock.{AddsNone, Elapses};
 ghost use Rattle.dd_serve.specs.Calls.{looked};
 ghost use Rattle.dd_serve.specs.Scratch.{Scratched, KeepsDevices};
-ghost use Rattle.dd_serve.specs.Saying.{IsIdle, OnlyLooks, SaysAlone};
+ghost use Rattle.dd_serve.specs.Saying.{IsIdle, SaysAlone};
 ghost use Rattle.dd_serve.specs.Refusing.{Refuses, StopsAtDevice, small_for, refusal_for};
 ghost use Rattle.dd_serve.specs.Answering.{AnsweredAll, AnsweredUpTo};
-ghost use Rattle.dd_serve.specs.Replays.{Replays, status_of, IsBounded, first_scratch, replay_sizes, replay_start, replay_commands, replay_blocks};
+ghost use Rattle.dd_serve.specs.Replays.{Replays, IsBounded, first_scratch, blocks_of, plan_sizes, replay_start, replay_commands};
 
 use crate::answering::serve;
+use crate::ending::{Ending, finish};
 use crate::halt::Halt;
-use crate::last_line::end;
 use crate::scratch::Scratch;
 use crate::words::Plan;
 use dd_block::Fingerprint;
 use dd_rig::{Dev, Failed, Rig, Source};
-use dd_script::{REPLY_ROOM, Reader, Refusal, Reply, Stop};
+use dd_script::{REPLY_ROOM, Reader, Refusal, Stop};
 use std::alloc::{AllocError, Global};
 
 /// The greatest number of blocks.
@@ -48,17 +48,17 @@ pub fn run_replay<F: Fingerprint, R: Rig, S: Source>(
     ensures device { result ≡ 7 → StopsAtDevice (Replay plan) (λ line. R.tells → SaysAlone line (R.counts rig.old) (R.counts rig.new) (R.world rig.old) (R.world rig.new)) (R.counts rig.old) (R.counts rig.new) }
     ensures memory { R.tells → result ≡ 4 → SaysAlone (stop_text Memory) (R.counts rig.old) (R.counts rig.new) (R.world rig.old) (R.world rig.new) }
     ensures served { R.tells → S.tells → refusal_for (Replay plan) (R.device_size rig.old) (shown FlashDevice (R.world rig.old)) ≡ None
-        → Replays (F.printed print.now) plan result (S.rest source.old) (R.world rig.old) (R.world rig.new) (looked (R.counts rig.old)) (R.counts rig.new) }
-    ensures taken { R.tells → S.tells → result ≤ 1 → IsTakenTo (replay_blocks plan (R.world rig.old)) (S.rest source.old) (S.rest source.new) }
+        → Replays (F.printed print.now) plan (R.device_size rig.old DiskDevice) result (S.rest source.old) (R.world rig.old) (R.world rig.new) (looked (R.counts rig.old)) (R.counts rig.new) }
+    ensures taken { S.tells → result ≤ 1 → IsTakenTo (blocks_of plan (R.device_size rig.old DiskDevice)) (S.rest source.old) (S.rest source.new) }
     ensures untaken { (result ≡ 3) ⊎ (result ≡ 4) → source.new ≡ source.old }
     ensures others { R.tells → Scratched (R.world rig.old) (R.world rig.new) }
     ensures time { R.tells → Elapses (R.clock rig.old) (R.clock rig.new) (KeepsDevices (R.world rig.old)) }
     ensures untouched { (R.counts rig.new).disk.writes ≡ (R.counts rig.old).disk.writes }
-    ensures looks { (result ≡ 3) ⊎ (result ≡ 4) → OnlyLooks (R.counts rig.old) (R.counts rig.new) }
+    ensures looks { (result ≡ 3) ⊎ (result ≡ 4) → Makes (up_to 1 0 0) nothing (R.counts rig.old) (R.counts rig.new) }
 {
     match is_in_use(rig) {
-        Err(_) => end(rig, Reply::Stopped(Stop::Flash), 7),
-        Ok(true) => end(rig, Reply::Refused(Refusal::InUse), 3),
+        Err(_) => finish(rig, Ending::Stopped(Stop::Flash)),
+        Ok(true) => finish(rig, Ending::Refused(Refusal::InUse)),
         Ok(false) => serve_plan(alloc, plan, source, rig, print),
     }
 }
@@ -93,36 +93,24 @@ fn serve_plan<F: Fingerprint, R: Rig, S: Source>(
     ensures emit { result ≡ 6 → Rose (R.counts rig.old).failed_emits (R.counts rig.new).failed_emits }
     ensures device { result ≡ 7 → Rose (R.counts rig.old).flash.failed_writes (R.counts rig.new).flash.failed_writes }
     ensures memory { R.tells → result ≡ 4 → SaysAlone (stop_text Memory) (R.counts rig.old) (R.counts rig.new) (R.world rig.old) (R.world rig.new) }
-    ensures served { R.tells → S.tells → Replays (F.printed print.now) plan result (S.rest source.old) (R.world rig.old) (R.world rig.new) (R.counts rig.old) (R.counts rig.new) }
+    ensures served { R.tells → S.tells → Replays (F.printed print.now) plan (R.device_size rig.old DiskDevice) result (S.rest source.old) (R.world rig.old) (R.world rig.new) (R.counts rig.old) (R.counts rig.new) }
     ensures others { R.tells → Scratched (R.world rig.old) (R.world rig.new) }
     ensures time { R.tells → Elapses (R.clock rig.old) (R.clock rig.new) (KeepsDevices (R.world rig.old)) }
     ensures untouched { (R.counts rig.new).disk.writes ≡ (R.counts rig.old).disk.writes }
-    ensures taken { R.tells → S.tells → result ≤ 1 → IsTakenTo (replay_blocks plan (R.world rig.old)) (S.rest source.old) (S.rest source.new) }
+    ensures taken { S.tells → result ≤ 1 → IsTakenTo (blocks_of plan (R.device_size rig.old DiskDevice)) (S.rest source.old) (S.rest source.new) }
     ensures untaken { result ≡ 4 → source.new ≡ source.old }
     ensures idle { result ≡ 4 → IsIdle (R.counts rig.old) (R.counts rig.new) }
     ensures later { NeverFalls (R.counts rig.old) (R.counts rig.new) }
 {
     let Ok(served) = serve_script(alloc, plan, source, rig, print) else {
-        return end(rig, Reply::Stopped(Stop::Memory), 4);
+        return finish(rig, Ending::Stopped(Stop::Memory));
     };
     match served {
-        Ok(faulted) => u8::from(faulted),
+        Ok(faulted) => finish(rig, Ending::Served { faulted }),
         Err(halt) => match halt {
-            Halt::Output => 6,
-            Halt::Stopped(why) => end(rig, Reply::Stopped(why), status_of(why)),
+            Halt::Output => finish(rig, Ending::Unheard),
+            Halt::Stopped(why) => finish(rig, Ending::Stopped(why)),
         },
-    }
-}
-
-// The status of a run that stops.
-fn status_of(why: Stop) -> u8
-    ensures { result ≡ status_of why }
-{
-    match why {
-        Stop::Memory => 4,
-        Stop::Script => 5,
-        Stop::Flash | Stop::Disk => 7,
-        Stop::Length => 8,
     }
 }
 
@@ -150,20 +138,20 @@ fn serve_script<F: Fingerprint, R: Rig, S: Source>(
 ) -> Result<Result<bool, Halt>, AllocError>
     requires plan { IsPlan plan }
     requires large { small_for (Replay plan) (R.device_size rig.old) ≡ None }
-    ensures all { R.tells → S.tells → IfOk result (λ served. IfOk served (λ faulted. AnsweredAll (F.printed print.now) (replay_sizes plan (R.world rig.old)) (replay_start plan (R.world rig.old))
-        (replay_commands plan (R.world rig.old) (S.rest source.old)) faulted (R.world rig.old).said (R.world rig.new).said (R.counts rig.old) (R.counts rig.new))) }
-    ensures some { R.tells → S.tells → IfOk result (λ served. IfErr served (λ halt. AnsweredUpTo (F.printed print.now) (replay_sizes plan (R.world rig.old)) (replay_start plan (R.world rig.old))
-        (replay_commands plan (R.world rig.old) (S.rest source.old)) halt (R.world rig.old).said (R.world rig.new).said (R.counts rig.old) (R.counts rig.new))) }
-    ensures bounded { R.tells → S.tells → IfOk result (λ served. OnOk served (IsBounded plan (R.world rig.old) (S.rest source.old))) }
+    ensures all { R.tells → S.tells → IfOk result (λ served. IfOk served (λ faulted. AnsweredAll (F.printed print.now) (plan_sizes plan (R.device_size rig.old DiskDevice)) (replay_start plan (R.device_size rig.old DiskDevice) (R.world rig.old))
+        (replay_commands plan (R.device_size rig.old DiskDevice) (S.rest source.old)) faulted (R.world rig.old).said (R.world rig.new).said (R.counts rig.old) (R.counts rig.new))) }
+    ensures some { R.tells → S.tells → IfOk result (λ served. IfErr served (λ halt. AnsweredUpTo (F.printed print.now) (plan_sizes plan (R.device_size rig.old DiskDevice)) (replay_start plan (R.device_size rig.old DiskDevice) (R.world rig.old))
+        (replay_commands plan (R.device_size rig.old DiskDevice) (S.rest source.old)) halt (R.world rig.old).said (R.world rig.new).said (R.counts rig.old) (R.counts rig.new))) }
+    ensures bounded { S.tells → IfOk result (λ served. OnOk served (IsBounded plan (R.device_size rig.old DiskDevice) (S.rest source.old))) }
     ensures early { OnErr result (R.tells → R.world rig.new ≡ R.world rig.old) }
-    ensures taken { R.tells → S.tells → IfOk result (λ served. OnOk served (IsTakenTo (replay_blocks plan (R.world rig.old)) (S.rest source.old) (S.rest source.new))) }
+    ensures taken { S.tells → IfOk result (λ served. OnOk served (IsTakenTo (blocks_of plan (R.device_size rig.old DiskDevice)) (S.rest source.old) (S.rest source.new))) }
     ensures untaken { OnErr result (source.new ≡ source.old) }
     ensures early_counts { OnErr result (R.counts rig.new ≡ R.counts rig.old) }
     ensures others { R.tells → Scratched (R.world rig.old) (R.world rig.new) }
     ensures time { R.tells → Elapses (R.clock rig.old) (R.clock rig.new) (KeepsDevices (R.world rig.old)) }
     ensures untouched { (R.counts rig.new).disk.writes ≡ (R.counts rig.old).disk.writes }
     ensures later { NeverFalls (R.counts rig.old) (R.counts rig.new) }
-    ensures halt { IfOk result (λ served. IfErr served (λ halt. Halts (R.tells → S.tells → IsBounded plan (R.world rig.old) (S.rest source.old) → ⊥) halt
+    ensures halt { IfOk result (λ served. IfErr served (λ halt. Halts (S.tells → IsBounded plan (R.device_size rig.old DiskDevice) (S.rest source.old) → ⊥) halt
         (R.counts rig.old) (R.counts rig.new) (S.failures source.old) (S.failures source.new))) }
 {
     let size = plan.block as usize;

@@ -1,4 +1,4 @@
-use Rattle.std.proofs.Common.{◌≡◌, ℕ, List, ◌++◌, Bool, ap, sym, ◌∙◌, subst, None, arith, ◌==◌, slice_index}
+use Rattle.std.proofs.Common.{◌≡◌, ℕ, List, ◌++◌, Bool, ap, sym, ◌∙◌, subst, None, Some, arith, ◌==◌, slice_index}
 use Rattle.std.specs.Prelude.{Option, Err, nat_lt}
 use Rattle.dd_rig.specs.declared.device.Dev.TheVariants.{Flash, Disk}
 use Rattle.dd_rig.specs.declared.tallies.Calls.{Calls}
@@ -10,17 +10,18 @@ use Rattle.dd_rig.specs.Device.{Device, IsImage}
 use Rattle.dd_script.specs.declared.reply.Reply.TheVariants as reply
 use Rattle.dd_script.specs.Text.{ended, reply_text}
 use Rattle.dd_serve.specs.declared.words.Asked.TheVariants.{Format}
-use Rattle.dd_serve.specs.Formats.{Formats, reply_to, fault_status}
+use Rattle.dd_serve.specs.Ending.{SaysLast, ending_line, status_of}
+use Rattle.dd_serve.specs.Formats.{Formats, ending_of}
 use Rattle.dd_serve.specs.Refusing.{Refuses, small_for, in_use, flash_needs, disk_needs}
 use Rattle.dd_serve.specs.Saying.{SaysAlone}
-use Rattle.dd_serve.proofs.Refused.{says_sooner, refuses_fault, refuses_large, small_none, device_fault, format_leaves, formats_none}
+use Rattle.dd_serve.proofs.Refused.{says_sooner, last_sooner, refuses_fault, refuses_large, small_none, device_fault, format_leaves, formats_none}
 use Rattle.dd_serve.proofs.format.run_format.Goals as goal
 
 pub returns-in-Ok-clause-crash : goal.returns-in-Ok-clause-crash
 returns-in-Ok-clause-crash g c = λ t. format_leaves c.args.geo (g.R.Rig.world c.args.rig.now) (g.R.Rig.world c.format_flash.new.rig) _ _ _ (c.in-Ok.ensures.crash t) (c.in-Ok.ensures.now t) (c.say_formatted.ensures.time t)
 
 pub returns-in-Err-clause-crash : goal.returns-in-Err-clause-crash
-returns-in-Err-clause-crash g c = λ t. format_leaves c.args.geo (g.R.Rig.world c.args.rig.now) (g.R.Rig.world c.format_flash.new.rig) _ _ _ (c.in-Err.ensures.crash t) (c.in-Err.ensures.now t) (c.end.ensures.time t)
+returns-in-Err-clause-crash g c = λ t. format_leaves c.args.geo (g.R.Rig.world c.args.rig.now) (g.R.Rig.world c.format_flash.new.rig) _ _ _ (c.in-Err.ensures.crash t) (c.in-Err.ensures.now t) (c.finish.ensures.time t)
 
 pub returns-in-Err-clause-refused : goal.returns-in-Err-clause-refused
 returns-in-Err-clause-refused g c = λ t.
@@ -28,45 +29,45 @@ returns-in-Err-clause-refused g c = λ t.
     let size = g.R.Rig.device_size c.args.rig.now in
     let old : World = g.R.Rig.world c.args.rig.now in
     let middle : World = g.R.Rig.world c.format_flash.new.rig in
-    let new : World = g.R.Rig.world c.end.new.rig in
+    let new : World = g.R.Rig.world c.finish.new.rig in
     let before = g.R.Rig.counts c.args.rig.now in
     let between = g.R.Rig.counts c.format_flash.new.rig in
-    let after = g.R.Rig.counts c.end.new.rig in
+    let after = g.R.Rig.counts c.finish.new.rig in
     let used : Bool = slice_index (shown Flash old) 0 == 1 in
     let large : small_fault c.args.geo size ≡ None = small_none (nat_lt (size Flash) (flash_needs (Format c.args.geo))) (nat_lt (size Disk) (disk_needs (Format c.args.geo))) _ _ _ _ c.requires in
     let small : TellsSmall (Err why) None = subst (λ (o : Option FormatFault). TellsSmall (Err why) o) large c.in-Err.ensures.small in
     let first : TellsFault (Err why) (in_use_fault (shown Flash old)) = subst (λ (o : Option FormatFault). TellsFault (Err why) (option_or o (in_use_fault (shown Flash old)))) large (c.in-Err.ensures.fault t) in
-    let reply : reply_text c.reply_to.result ≡ reply_text (reply_to why) = ap reply_text c.reply_to.ensures in
-    let says : SaysAlone (reply_text (reply_to why)) before after old new = says_sooner (reply_text (reply_to why)) before between after old middle new c.in-Err.ensures.later.emits (c.in-Err.ensures.said t)
-    (subst (λ (l : List ℕ). SaysAlone l between after middle new) reply (c.end.ensures.said t)) in
-    let refuses : Refuses (in_use (shown Flash old)) (fault_status why) before after old new = refuses_fault why used before after old new small first
-    (λ e. let rose = c.in-Err.ensures.read (ap Err e) in omega (arith, rose, ap (λ (d : Calls). d.failed_reads) c.end.ensures.idle.0)) says in
-    subst (λ (n : ℕ). Refuses (option_or (small_for (Format c.args.geo) size) (in_use (shown Flash old))) n before after old new) (sym (c.end.ensures.status ∙ c.fault_status.ensures))
-    (refuses_large (small_for (Format c.args.geo) size) (in_use (shown Flash old)) (fault_status why) before after old new c.requires refuses)
+    let ending : ending_line c.ending_of.result ≡ ending_line (ending_of why) = ap ending_line c.ending_of.ensures in
+    let says : SaysLast (ending_line (ending_of why)) before after old new = last_sooner (ending_line (ending_of why)) before between after old middle new c.in-Err.ensures.later.emits (c.in-Err.ensures.said t)
+    (subst (λ (o : Option (List ℕ)). SaysLast o between after middle new) ending (c.finish.ensures.said t)) in
+    let refuses : Refuses (in_use (shown Flash old)) (status_of (ending_of why)) before after old new = refuses_fault why used before after old new small first
+    (λ e. let rose = c.in-Err.ensures.read (ap Err e) in omega (arith, rose, ap (λ (d : Calls). d.failed_reads) c.finish.ensures.idle.0)) says in
+    subst (λ (n : ℕ). Refuses (option_or (small_for (Format c.args.geo) size) (in_use (shown Flash old))) n before after old new) (sym (c.finish.ensures.status ∙ ap status_of c.ending_of.ensures))
+    (refuses_large (small_for (Format c.args.geo) size) (in_use (shown Flash old)) (status_of (ending_of why)) before after old new c.requires refuses)
 
 pub returns-in-Err-clause-device : goal.returns-in-Err-clause-device
 returns-in-Err-clause-device g c = λ seven.
     let why : FormatFault = c.in-Err.fault in
     let old : World = g.R.Rig.world c.args.rig.now in
     let middle : World = g.R.Rig.world c.format_flash.new.rig in
-    let new : World = g.R.Rig.world c.end.new.rig in
+    let new : World = g.R.Rig.world c.finish.new.rig in
     let before = g.R.Rig.counts c.args.rig.now in
     let between = g.R.Rig.counts c.format_flash.new.rig in
-    let after = g.R.Rig.counts c.end.new.rig in
-    let reply : reply_text c.reply_to.result ≡ reply_text (reply_to why) = ap reply_text c.reply_to.ensures in
-    let says : g.R.Rig.tells → SaysAlone (reply_text (reply_to why)) before after old new = λ t. says_sooner (reply_text (reply_to why)) before between after old middle new c.in-Err.ensures.later.emits (c.in-Err.ensures.said t)
-    (subst (λ (l : List ℕ). SaysAlone l between after middle new) reply (c.end.ensures.said t)) in
+    let after = g.R.Rig.counts c.finish.new.rig in
+    let ending : ending_line c.ending_of.result ≡ ending_line (ending_of why) = ap ending_line c.ending_of.ensures in
+    let says : (line : List ℕ) → ending_line (ending_of why) ≡ Some line → g.R.Rig.tells → SaysAlone line before after old new = λ line is t. last_sooner (Some line) before between after old middle new c.in-Err.ensures.later.emits (c.in-Err.ensures.said t)
+    (subst (λ (o : Option (List ℕ)). SaysLast o between after middle new) (ending ∙ is) (c.finish.ensures.said t)) in
     device_fault why c.args.geo (λ line. g.R.Rig.tells → SaysAlone line before after old new) before after
-    (λ e. let rose = c.in-Err.ensures.read (ap Err e) in omega (arith, rose, ap (λ (d : Calls). d.failed_reads) c.end.ensures.idle.0))
-    (λ e. let rose = c.in-Err.ensures.write (ap Err e) in omega (arith, rose, ap (λ (d : Calls). d.failed_writes) c.end.ensures.idle.0))
-    (λ e. let rose = c.in-Err.ensures.disk_write (ap Err e) in omega (arith, rose, ap (λ (d : Calls). d.failed_writes) c.end.ensures.idle.1))
-    says (sym (c.end.ensures.status ∙ c.fault_status.ensures) ∙ seven)
+    (λ e. let rose = c.in-Err.ensures.read (ap Err e) in omega (arith, rose, ap (λ (d : Calls). d.failed_reads) c.finish.ensures.idle.0))
+    (λ e. let rose = c.in-Err.ensures.write (ap Err e) in omega (arith, rose, ap (λ (d : Calls). d.failed_writes) c.finish.ensures.idle.0))
+    (λ e. let rose = c.in-Err.ensures.disk_write (ap Err e) in omega (arith, rose, ap (λ (d : Calls). d.failed_writes) c.finish.ensures.idle.1))
+    says (sym (c.finish.ensures.status ∙ ap status_of c.ending_of.ensures) ∙ seven)
 
 pub returns-in-Err-clause-formatted : goal.returns-in-Err-clause-formatted
 returns-in-Err-clause-formatted g c = λ t.
     let old : World = g.R.Rig.world c.args.rig.now in
-    let new : World = g.R.Rig.world c.end.new.rig in
-    subst (λ (n : ℕ). Formats c.args.geo n (g.R.Rig.counts c.args.rig.now) (g.R.Rig.counts c.end.new.rig) old new) (sym (c.end.ensures.status ∙ c.fault_status.ensures)) (formats_none c.in-Err.fault c.args.geo _ _ old new)
+    let new : World = g.R.Rig.world c.finish.new.rig in
+    subst (λ (n : ℕ). Formats c.args.geo n (g.R.Rig.counts c.args.rig.now) (g.R.Rig.counts c.finish.new.rig) old new) (sym (c.finish.ensures.status ∙ ap status_of c.ending_of.ensures)) (formats_none c.in-Err.fault c.args.geo _ _ old new)
 
 pub returns-in-Ok-clause-formatted : goal.returns-in-Ok-clause-formatted
 returns-in-Ok-clause-formatted g c = λ t.

@@ -1,6 +1,7 @@
 use Rattle.std.proofs.Common.{◌≡◌, ℕ, List, Bool, true, inl, inr, ap, sym, ◌∙◌, subst, refl, None, Some, arith, ◌==◌, slice_index}
 use Rattle.std.specs.Option.{option_or}
-use Rattle.dd_rig.specs.declared.device.Dev.TheVariants.{Flash}
+use Rattle.dd_rig.specs.declared.device.Dev.{Dev}
+use Rattle.dd_rig.specs.declared.device.Dev.TheVariants.{Flash, Disk}
 use Rattle.dd_rig.specs.declared.tallies.Calls.{Calls}
 use Rattle.dd_rig.specs.declared.tallies.Counts.{Counts}
 use Rattle.dd_rig.specs.Counts.{Rose}
@@ -12,12 +13,12 @@ use Rattle.std.specs.Prelude.{if◌then◌else◌}
 use Rattle.dd_script.specs.Text.{stop_text, refusal_text}
 use Rattle.dd_serve.specs.declared.words.Asked.TheVariants.{Replay}
 use Rattle.dd_serve.specs.Refusing.{Refuses, small_for, in_use}
-use Rattle.dd_serve.specs.Replays.{Replays, replay_blocks, replay_sizes}
+use Rattle.dd_serve.specs.Replays.{Replays, blocks_of, plan_sizes}
 use Rattle.dd_serve.specs.Saying.{SaysAlone}
 use Rattle.dd_serve.proofs.Going.{commands_some}
-use Rattle.dd_serve.proofs.Ending.{stops_alone, stops_early}
+use Rattle.dd_serve.proofs.Finishing.{stops_alone, stops_early}
 use Rattle.dd_serve.specs.Calls.{looked}
-use Rattle.dd_serve.proofs.Looking.{only_looks, looked_falls, asks_looked}
+use Rattle.dd_serve.proofs.Looking.{one_look, looked_falls, asks_looked}
 use Rattle.dd_serve.proofs.Refused.{says_sooner, refuses_fault, refuses_large}
 use Rattle.dd_serve.proofs.replay.run_replay.Goals as goal
 
@@ -26,59 +27,59 @@ returns-in-Err-clause-refused g c = λ t.
     let size = g.R.Rig.device_size c.args.rig.now in
     let old : World = g.R.Rig.world c.args.rig.now in
     let middle : World = g.R.Rig.world c.is_in_use.new.rig in
-    let new : World = g.R.Rig.world c.end.new.rig in
+    let new : World = g.R.Rig.world c.finish.new.rig in
     let before = g.R.Rig.counts c.args.rig.now in
     let between = g.R.Rig.counts c.is_in_use.new.rig in
-    let after = g.R.Rig.counts c.end.new.rig in
-    let says : SaysAlone (stop_text stop.Flash) before after old new = says_sooner (stop_text stop.Flash) before between after old middle new c.in-Err.ensures.frame.0.emits (ap (λ (w : World). w.said) (c.in-Err.ensures.world t)) (c.end.ensures.said t) in
-    let rose : Rose before.flash.failed_reads after.flash.failed_reads = omega (arith, c.in-Err.ensures.cause, ap (λ (d : Calls). d.failed_reads) c.end.ensures.idle.0) in
+    let after = g.R.Rig.counts c.finish.new.rig in
+    let says : SaysAlone (stop_text stop.Flash) before after old new = says_sooner (stop_text stop.Flash) before between after old middle new c.in-Err.ensures.frame.0.emits (ap (λ (w : World). w.said) (c.in-Err.ensures.world t)) (c.finish.ensures.said t) in
+    let rose : Rose before.flash.failed_reads after.flash.failed_reads = omega (arith, c.in-Err.ensures.cause, ap (λ (d : Calls). d.failed_reads) c.finish.ensures.idle.0) in
     let refuses : Refuses (in_use (shown Flash old)) 7 before after old new = refuses_fault fault.FlashRead (slice_index (shown Flash old) 0 == 1) before after old new refl tt (λ e. rose) says in
-    subst (λ (n : ℕ). Refuses (option_or (small_for (Replay c.args.plan) size) (in_use (shown Flash old))) n before after old new) (sym c.end.ensures.status) (refuses_large (small_for (Replay c.args.plan) size) (in_use (shown Flash old)) 7 before after old new c.requires.large refuses)
+    subst (λ (n : ℕ). Refuses (option_or (small_for (Replay c.args.plan) size) (in_use (shown Flash old))) n before after old new) (sym c.finish.ensures.status) (refuses_large (small_for (Replay c.args.plan) size) (in_use (shown Flash old)) 7 before after old new c.requires.large refuses)
 
 pub returns-in-Err-clause-device : goal.returns-in-Err-clause-device
 returns-in-Err-clause-device g c = λ seven.
     let old : World = g.R.Rig.world c.args.rig.now in
     let middle : World = g.R.Rig.world c.is_in_use.new.rig in
-    let new : World = g.R.Rig.world c.end.new.rig in
+    let new : World = g.R.Rig.world c.finish.new.rig in
     let before = g.R.Rig.counts c.args.rig.now in
     let between = g.R.Rig.counts c.is_in_use.new.rig in
-    let after = g.R.Rig.counts c.end.new.rig in
-    let rose : Rose before.flash.failed_reads after.flash.failed_reads = omega (arith, c.in-Err.ensures.cause, ap (λ (d : Calls). d.failed_reads) c.end.ensures.idle.0) in
+    let after = g.R.Rig.counts c.finish.new.rig in
+    let rose : Rose before.flash.failed_reads after.flash.failed_reads = omega (arith, c.in-Err.ensures.cause, ap (λ (d : Calls). d.failed_reads) c.finish.ensures.idle.0) in
     inr (
       rose,
-      (λ t. says_sooner (stop_text stop.Flash) before between after old middle new c.in-Err.ensures.frame.0.emits (ap (λ (w : World). w.said) (c.in-Err.ensures.world t)) (c.end.ensures.said t)),
-      only_looks c.is_in_use.result before between after c.is_in_use.ensures.counts c.end.ensures.idle,
+      (λ t. says_sooner (stop_text stop.Flash) before between after old middle new c.in-Err.ensures.frame.0.emits (ap (λ (w : World). w.said) (c.in-Err.ensures.world t)) (c.finish.ensures.said t)),
+      one_look c.is_in_use.result before between after c.is_in_use.ensures.counts c.finish.ensures.idle,
     )
 
 pub returns-in-Err-clause-served : goal.returns-in-Err-clause-served
 returns-in-Err-clause-served g c = λ t u first.
     let print = g.F.Fingerprint.printed c.args.print.now in
     let old : World = g.R.Rig.world c.args.rig.now in
-    let new : World = g.R.Rig.world c.end.new.rig in
+    let new : World = g.R.Rig.world c.finish.new.rig in
     let before : Counts = looked (g.R.Rig.counts c.args.rig.now) in
     let between : Counts = g.R.Rig.counts c.is_in_use.new.rig in
-    let after : Counts = g.R.Rig.counts c.end.new.rig in
+    let after : Counts = g.R.Rig.counts c.finish.new.rig in
     let script : List ℕ = g.S.Source.rest c.args.source.now in
     let one = c.is_in_use.ensures.counts in
     let later = looked_falls (g.R.Rig.counts c.args.rig.now) between c.in-Err.ensures.frame.0 in
-    let asks = asks_looked (replay_sizes c.args.plan old) c.is_in_use.result (g.R.Rig.counts c.args.rig.now) between one in
-    let said : SaysAlone (stop_text stop.Flash) between after old new = subst (λ (w : World). SaysAlone (stop_text stop.Flash) between after w new) (c.in-Err.ensures.world t) (c.end.ensures.said t) in
-    subst (λ (n : ℕ). Replays print c.args.plan n script old new before after) (sym c.end.ensures.status)
-    (stops_alone print c.args.plan script old before stop.Flash old new between after later c.end.ensures.later c.end.ensures.idle
-    (stops_early print c.args.plan script old before stop.Flash between later asks refl (λ e. omega (arith, e)) (commands_some (replay_blocks c.args.plan old) script)) said)
+    let asks = asks_looked (plan_sizes c.args.plan (g.R.Rig.device_size c.args.rig.now Disk)) c.is_in_use.result (g.R.Rig.counts c.args.rig.now) between one in
+    let said : SaysAlone (stop_text stop.Flash) between after old new = subst (λ (w : World). SaysAlone (stop_text stop.Flash) between after w new) (c.in-Err.ensures.world t) (c.finish.ensures.said t) in
+    subst (λ (n : ℕ). Replays print c.args.plan (g.R.Rig.device_size c.args.rig.now Disk) n script old new before after) (sym c.finish.ensures.status)
+    (stops_alone print c.args.plan (g.R.Rig.device_size c.args.rig.now Disk) script old before stop.Flash old new between after later c.finish.ensures.later c.finish.ensures.idle
+    (stops_early print c.args.plan (g.R.Rig.device_size c.args.rig.now Disk) script old before stop.Flash between later asks refl (λ e. omega (arith, e)) (commands_some (blocks_of c.args.plan (g.R.Rig.device_size c.args.rig.now Disk)) script)) said)
 
 pub returns-in-Ok-true-clause-refused : goal.returns-in-Ok-true-clause-refused
 returns-in-Ok-true-clause-refused g c = λ t.
     let size = g.R.Rig.device_size c.args.rig.now in
     let old : World = g.R.Rig.world c.args.rig.now in
-    let new : World = g.R.Rig.world c.end-in-Ok-true.new.rig in
+    let new : World = g.R.Rig.world c.finish-in-Ok-true.new.rig in
     let before = g.R.Rig.counts c.args.rig.now in
     let between = g.R.Rig.counts c.is_in_use.new.rig in
-    let after = g.R.Rig.counts c.end-in-Ok-true.new.rig in
+    let after = g.R.Rig.counts c.finish-in-Ok-true.new.rig in
     let is : (slice_index (shown Flash old) 0 == 1) ≡ true = sym (c.in-Ok-true.ensures.used t) ∙ c.in-Ok-true.field-0-test in
-    let says : SaysAlone (refusal_text refusal.InUse) before after old new = says_sooner (refusal_text refusal.InUse) before between after old (g.R.Rig.world c.is_in_use.new.rig) new c.is_in_use.ensures.frame.0.emits (ap (λ (w : World). w.said) (c.is_in_use.ensures.world t)) (c.end-in-Ok-true.ensures.said t) in
+    let says : SaysAlone (refusal_text refusal.InUse) before after old new = says_sooner (refusal_text refusal.InUse) before between after old (g.R.Rig.world c.is_in_use.new.rig) new c.is_in_use.ensures.frame.0.emits (ap (λ (w : World). w.said) (c.is_in_use.ensures.world t)) (c.finish-in-Ok-true.ensures.said t) in
     let refuses : Refuses (in_use (shown Flash old)) 3 before after old new = subst (λ (b : Bool). Refuses (if b then Some refusal.InUse else None) 3 before after old new) (sym is) (inl (refl, says)) in
-    subst (λ (n : ℕ). Refuses (option_or (small_for (Replay c.args.plan) size) (in_use (shown Flash old))) n before after old new) (sym c.end-in-Ok-true.ensures.status)
+    subst (λ (n : ℕ). Refuses (option_or (small_for (Replay c.args.plan) size) (in_use (shown Flash old))) n before after old new) (sym c.finish-in-Ok-true.ensures.status)
     (refuses_large (small_for (Replay c.args.plan) size) (in_use (shown Flash old)) 3 before after old new c.requires.large refuses)
 
 pub returns-in-Ok-false-clause-served : goal.returns-in-Ok-false-clause-served
@@ -88,5 +89,6 @@ returns-in-Ok-false-clause-served g c = λ t u first.
     let new : World = g.R.Rig.world c.serve_plan.new.rig in
     let after : Counts = g.R.Rig.counts c.serve_plan.new.rig in
     let script : List ℕ = g.S.Source.rest c.args.source.now in
-    let one = subst (λ (w : World). Replays print c.args.plan c.serve_plan.result script w new (g.R.Rig.counts c.is_in_use.new.rig) after) (c.is_in_use.ensures.world t) (c.serve_plan.ensures.served t u) in
-    subst (λ (k : Counts). Replays print c.args.plan c.serve_plan.result script old new k after) c.in-Ok-false.ensures.counts one
+    let one = subst (λ (w : World). Replays print c.args.plan (g.R.Rig.device_size c.args.rig.now Disk) c.serve_plan.result script w new (g.R.Rig.counts c.is_in_use.new.rig) after) (c.is_in_use.ensures.world t)
+    (subst (λ (size : Dev → ℕ). Replays print c.args.plan (size Disk) c.serve_plan.result script (g.R.Rig.world c.is_in_use.new.rig) new (g.R.Rig.counts c.is_in_use.new.rig) after) c.is_in_use.ensures.frame.1 (c.serve_plan.ensures.served t u)) in
+    subst (λ (k : Counts). Replays print c.args.plan (g.R.Rig.device_size c.args.rig.now Disk) c.serve_plan.result script old new k after) c.in-Ok-false.ensures.counts one

@@ -1,50 +1,52 @@
-use Rattle.std.proofs.Common.{◌≡◌, ℕ, List, true, false, Bool, subst, sym, refl, ◌∙◌, arith}
-use mir.Val.{bool_byte}
+use Rattle.std.proofs.Common.{◌≡◌, ℕ, List, true, false, Bool, subst, sym, refl, ap, ◌∙◌, arith}
 use Rattle.dd_rig.specs.declared.tallies.Counts.{Counts}
 use Rattle.dd_rig.specs.Counts.{NeverFalls}
+use Rattle.dd_rig.specs.declared.device.Dev.TheVariants.{Disk}
 use Rattle.dd_rig.specs.World.{World}
 use Rattle.dd_script.specs.declared.reply.Stop.TheVariants as stop
 use Rattle.dd_script.specs.Text.{stop_text}
 use Rattle.dd_serve.specs.declared.halt.Halt.TheVariants.{Stopped}
+use Rattle.dd_serve.specs.declared.ending.Ending.TheVariants.{Served}
+use Rattle.dd_serve.specs.Ending.{status_of}
 use Rattle.dd_serve.specs.Causes.{Halts}
 use Rattle.dd_serve.specs.Answering.{AnsweredAll, AnsweredUpTo}
 use Rattle.dd_serve.specs.Saying.{IsIdle, SaysAlone}
-use Rattle.dd_serve.specs.Replays.{Replays, IsBounded, replay_sizes, replay_start, replay_commands, replay_blocks}
+use Rattle.dd_serve.specs.Replays.{Replays, IsBounded, plan_sizes, replay_start, replay_commands, blocks_of}
 use Rattle.dd_rig.proofs.Falling.{falls_self}
 use Rattle.dd_serve.proofs.Costs.{asks_early}
 use Rattle.dd_serve.proofs.Moments.{end_moment}
 use Rattle.dd_serve.proofs.Going.{commands_some}
 use Rattle.dd_serve.proofs.Starts.{halts_by}
-use Rattle.dd_serve.proofs.Ending.{status_for, serves_all, serves_cut, stops_alone, stops_served, stops_early, stop_large}
+use Rattle.dd_serve.proofs.Finishing.{status_for, serves_all, serves_cut, ends_silent, stops_alone, stops_served, stops_early, stop_large}
 use Rattle.dd_serve.proofs.replay.serve_plan.Goals as goal
 
-byte_is : (b : Bool) → status_for b ≡ bool_byte b
-byte_is true = refl
-byte_is false = refl
+status_is : (b : Bool) → status_for b ≡ status_of (Served b)
+status_is true = refl
+status_is false = refl
 
 pub returns-in_default-clause-memory : goal.returns-in_default-clause-memory
 returns-in_default-clause-memory g c = λ t e.
     let counts = c.in_default.ensures.early_counts in
     let world = c.in_default.ensures.early t in
-    subst (λ (w : World). SaysAlone (stop_text stop.Memory) (g.R.Rig.counts c.args.rig.now) (g.R.Rig.counts c.end.new.rig) w (g.R.Rig.world c.end.new.rig)) world
-    (subst (λ (k : Counts). SaysAlone (stop_text stop.Memory) k (g.R.Rig.counts c.end.new.rig) (g.R.Rig.world c.serve_script.new.rig) (g.R.Rig.world c.end.new.rig)) counts (c.end.ensures.said t))
+    subst (λ (w : World). SaysAlone (stop_text stop.Memory) (g.R.Rig.counts c.args.rig.now) (g.R.Rig.counts c.finish.new.rig) w (g.R.Rig.world c.finish.new.rig)) world
+    (subst (λ (k : Counts). SaysAlone (stop_text stop.Memory) k (g.R.Rig.counts c.finish.new.rig) (g.R.Rig.world c.serve_script.new.rig) (g.R.Rig.world c.finish.new.rig)) counts (c.finish.ensures.said t))
 
 pub returns-in_default-clause-served : goal.returns-in_default-clause-served
 returns-in_default-clause-served g c = λ t u.
     let print = g.F.Fingerprint.printed c.args.print.now in
     let old : World = g.R.Rig.world c.args.rig.now in
-    let new : World = g.R.Rig.world c.end.new.rig in
+    let new : World = g.R.Rig.world c.finish.new.rig in
     let before : Counts = g.R.Rig.counts c.args.rig.now in
-    let end : Counts = g.R.Rig.counts c.end.new.rig in
+    let end : Counts = g.R.Rig.counts c.finish.new.rig in
     let script : List ℕ = g.S.Source.rest c.args.source.now in
     let counts = c.in_default.ensures.early_counts in
     let world = c.in_default.ensures.early t in
     let said : SaysAlone (stop_text stop.Memory) before end old new = subst (λ (w : World). SaysAlone (stop_text stop.Memory) before end w new) world
-    (subst (λ (k : Counts). SaysAlone (stop_text stop.Memory) k end (g.R.Rig.world c.serve_script.new.rig) new) counts (c.end.ensures.said t)) in
-    let later = subst (λ (k : Counts). NeverFalls k end) counts c.end.ensures.later in
-    let idle = subst (λ (k : Counts). IsIdle k end) counts c.end.ensures.idle in
-    subst (λ (n : ℕ). Replays print c.args.plan n script old new before end) (sym c.end.ensures.status)
-    (stops_alone print c.args.plan script old before stop.Memory old new before end (falls_self before) later idle (stops_early print c.args.plan script old before stop.Memory before (falls_self before) (asks_early (replay_sizes c.args.plan old) before before (omega arith) (omega arith) (omega arith) (omega arith) (omega arith) (omega arith) (omega arith)) refl (λ e. omega arith) (commands_some (replay_blocks c.args.plan old) script)) said)
+    (subst (λ (k : Counts). SaysAlone (stop_text stop.Memory) k end (g.R.Rig.world c.serve_script.new.rig) new) counts (c.finish.ensures.said t)) in
+    let later = subst (λ (k : Counts). NeverFalls k end) counts c.finish.ensures.later in
+    let idle = subst (λ (k : Counts). IsIdle k end) counts c.finish.ensures.idle in
+    subst (λ (n : ℕ). Replays print c.args.plan (g.R.Rig.device_size c.args.rig.now Disk) n script old new before end) (sym c.finish.ensures.status)
+    (stops_alone print c.args.plan (g.R.Rig.device_size c.args.rig.now Disk) script old before stop.Memory old new before end (falls_self before) later idle (stops_early print c.args.plan (g.R.Rig.device_size c.args.rig.now Disk) script old before stop.Memory before (falls_self before) (asks_early (plan_sizes c.args.plan (g.R.Rig.device_size c.args.rig.now Disk)) before before (omega arith) (omega arith) (omega arith) (omega arith) (omega arith) (omega arith) (omega arith)) refl (λ e. omega arith) (commands_some (blocks_of c.args.plan (g.R.Rig.device_size c.args.rig.now Disk)) script)) said)
 
 pub returns-in-Ok-served-clause-served : goal.returns-in-Ok-served-clause-served
 returns-in-Ok-served-clause-served g c = λ t u.
@@ -55,10 +57,12 @@ returns-in-Ok-served-clause-served g c = λ t u.
     let end : Counts = g.R.Rig.counts c.serve_script.new.rig in
     let script : List ℕ = g.S.Source.rest c.args.source.now in
     let faulted : Bool = c.in-Ok-served.faulted in
-    let served : AnsweredAll print (replay_sizes c.args.plan old) (replay_start c.args.plan old) (replay_commands c.args.plan old script) faulted old.said new.said before end = rw c.in-Ok-served.is at (c.in-Ok.ensures.all t u) in
-    let bounded : IsBounded c.args.plan old script = rw c.in-Ok-served.is at (c.in-Ok.ensures.bounded t u) in
-    let all = serves_all print c.args.plan script old before faulted new end served bounded in
-    subst (λ (n : ℕ). Replays print c.args.plan n script old new before end) (byte_is faulted ∙ sym c.from.ensures) all
+    let served : AnsweredAll print (plan_sizes c.args.plan (g.R.Rig.device_size c.args.rig.now Disk)) (replay_start c.args.plan (g.R.Rig.device_size c.args.rig.now Disk) old) (replay_commands c.args.plan (g.R.Rig.device_size c.args.rig.now Disk) script) faulted old.said new.said before end = rw c.in-Ok-served.is at (c.in-Ok.ensures.all t u) in
+    let bounded : IsBounded c.args.plan (g.R.Rig.device_size c.args.rig.now Disk) script = rw c.in-Ok-served.is at (c.in-Ok.ensures.bounded u) in
+    let all = serves_all print c.args.plan (g.R.Rig.device_size c.args.rig.now Disk) script old before faulted new end served bounded in
+    let same = c.finish-in-Ok-served.ensures.silent refl in
+    ends_silent print c.args.plan (g.R.Rig.device_size c.args.rig.now Disk) script old before (status_for faulted) c.finish-in-Ok-served.result new (g.R.Rig.world c.finish-in-Ok-served.new.rig) end (g.R.Rig.counts c.finish-in-Ok-served.new.rig)
+    (ap g.R.Rig.world same) (ap g.R.Rig.counts same) (status_is faulted ∙ sym c.finish-in-Ok-served.ensures.status) all
 
 pub returns-in-Output-clause-served : goal.returns-in-Output-clause-served
 returns-in-Output-clause-served g c = λ t u.
@@ -68,31 +72,34 @@ returns-in-Output-clause-served g c = λ t u.
     let before : Counts = g.R.Rig.counts c.args.rig.now in
     let end : Counts = g.R.Rig.counts c.serve_script.new.rig in
     let script : List ℕ = g.S.Source.rest c.args.source.now in
-    serves_cut print c.args.plan script old before new end (rw c.in-Output.is at (rw c.in-Err.is at (c.in-Ok.ensures.some t u))) (rw c.in-Output.is at (rw c.in-Err.is at c.in-Ok.ensures.halt))
+    let same = c.finish-in-Output.ensures.silent refl in
+    ends_silent print c.args.plan (g.R.Rig.device_size c.args.rig.now Disk) script old before 6 c.finish-in-Output.result new (g.R.Rig.world c.finish-in-Output.new.rig) end (g.R.Rig.counts c.finish-in-Output.new.rig)
+    (ap g.R.Rig.world same) (ap g.R.Rig.counts same) (sym c.finish-in-Output.ensures.status)
+    (serves_cut print c.args.plan (g.R.Rig.device_size c.args.rig.now Disk) script old before new end (rw c.in-Output.is at (rw c.in-Err.is at (c.in-Ok.ensures.some t u))) (rw c.in-Output.is at (rw c.in-Err.is at c.in-Ok.ensures.halt)))
 
 pub returns-in-Stopped-clause-served : goal.returns-in-Stopped-clause-served
 returns-in-Stopped-clause-served g c = λ t u.
     let print = g.F.Fingerprint.printed c.args.print.now in
     let old : World = g.R.Rig.world c.args.rig.now in
     let middle : World = g.R.Rig.world c.serve_script.new.rig in
-    let new : World = g.R.Rig.world c.end-in-Stopped.new.rig in
+    let new : World = g.R.Rig.world c.finish-in-Stopped.new.rig in
     let before : Counts = g.R.Rig.counts c.args.rig.now in
     let between : Counts = g.R.Rig.counts c.serve_script.new.rig in
-    let end : Counts = g.R.Rig.counts c.end-in-Stopped.new.rig in
+    let end : Counts = g.R.Rig.counts c.finish-in-Stopped.new.rig in
     let script : List ℕ = g.S.Source.rest c.args.source.now in
     let failures = g.S.Source.failures in
     let why = c.in-Stopped.why in
-    let P : Type 0 = g.R.Rig.tells → g.S.Source.tells → IsBounded c.args.plan old script → ⊥ in
-    let Q : Type 0 = IsBounded c.args.plan old script → ⊥ in
+    let P : Type 0 = g.S.Source.tells → IsBounded c.args.plan (g.R.Rig.device_size c.args.rig.now Disk) script → ⊥ in
+    let Q : Type 0 = IsBounded c.args.plan (g.R.Rig.device_size c.args.rig.now Disk) script → ⊥ in
     let halts : Halts P (Stopped why) before between (failures c.args.source.now) (failures c.serve_script.new.source) = rw c.in-Stopped.is at (rw c.in-Err.is at c.in-Ok.ensures.halt) in
-    let halted : Halts Q (Stopped why) before between (failures c.args.source.now) (failures c.serve_script.new.source) = halts_by P Q (λ long. long t u) (Stopped why) before between _ _ halts in
-    let served : AnsweredUpTo print (replay_sizes c.args.plan old) (replay_start c.args.plan old) (replay_commands c.args.plan old script) (Stopped why) old.said middle.said before between = rw c.in-Stopped.is at (rw c.in-Err.is at (c.in-Ok.ensures.some t u)) in
-    subst (λ (n : ℕ). Replays print c.args.plan n script old new before end) (sym (c.end-in-Stopped.ensures.status ∙ c.status_of.ensures))
-    (stops_alone print c.args.plan script old before why middle new between end c.serve_script.ensures.later c.end-in-Stopped.ensures.later c.end-in-Stopped.ensures.idle
-    (stops_served print c.args.plan script old before why middle between _ _ served halted) (c.end-in-Stopped.ensures.said t))
+    let halted : Halts Q (Stopped why) before between (failures c.args.source.now) (failures c.serve_script.new.source) = halts_by P Q (λ long. long u) (Stopped why) before between _ _ halts in
+    let served : AnsweredUpTo print (plan_sizes c.args.plan (g.R.Rig.device_size c.args.rig.now Disk)) (replay_start c.args.plan (g.R.Rig.device_size c.args.rig.now Disk) old) (replay_commands c.args.plan (g.R.Rig.device_size c.args.rig.now Disk) script) (Stopped why) old.said middle.said before between = rw c.in-Stopped.is at (rw c.in-Err.is at (c.in-Ok.ensures.some t u)) in
+    subst (λ (n : ℕ). Replays print c.args.plan (g.R.Rig.device_size c.args.rig.now Disk) n script old new before end) (sym c.finish-in-Stopped.ensures.status)
+    (stops_alone print c.args.plan (g.R.Rig.device_size c.args.rig.now Disk) script old before why middle new between end c.serve_script.ensures.later c.finish-in-Stopped.ensures.later c.finish-in-Stopped.ensures.idle
+    (stops_served print c.args.plan (g.R.Rig.device_size c.args.rig.now Disk) script old before why middle between _ _ served halted) (c.finish-in-Stopped.ensures.said t))
 
 pub returns-in-Stopped-clause-time : goal.returns-in-Stopped-clause-time
-returns-in-Stopped-clause-time g c = λ t. end_moment _ _ _ _ (g.R.Rig.world c.serve_script.new.rig) (c.serve_script.ensures.time t) (c.serve_script.ensures.others t) (c.end-in-Stopped.ensures.time t)
+returns-in-Stopped-clause-time g c = λ t. end_moment _ _ _ _ (g.R.Rig.world c.serve_script.new.rig) (c.serve_script.ensures.time t) (c.serve_script.ensures.others t) (c.finish-in-Stopped.ensures.time t)
 
 pub returns-in-Stopped-clause-taken : goal.returns-in-Stopped-clause-taken
-returns-in-Stopped-clause-taken g c = λ t u small. absurd (omega (arith, small, stop_large c.in-Stopped.why, c.end-in-Stopped.ensures.status, c.status_of.ensures))
+returns-in-Stopped-clause-taken g c = λ u small. absurd (omega (arith, small, stop_large c.in-Stopped.why, c.finish-in-Stopped.ensures.status))

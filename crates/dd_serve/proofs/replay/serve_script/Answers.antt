@@ -1,8 +1,8 @@
-use Rattle.std.proofs.Common.{◌≡◌, ◌<◌, ℕ, List, length, ap, sym, ◌∙◌, subst}
+use Rattle.std.proofs.Common.{◌≡◌, ◌<◌, ℕ, List, sym, subst}
 use Rattle.std.specs.Prelude.{IfOk, IfErr, OnOk}
 use Rattle.std.proofs.lemmas.Result.{IfErr-weaker}
 use Rattle.dd_rig.specs.declared.device.Dev.TheVariants.{Disk}
-use Rattle.dd_rig.specs.World.{World, shown}
+use Rattle.dd_rig.specs.World.{World}
 use Rattle.dd_script.specs.Script.{commands_of, EndsWithin}
 use Rattle.dd_serve.specs.declared.scratch.Scratch.{Scratch}
 use Rattle.dd_serve.specs.declared.halt.Halt.{Halt}
@@ -33,10 +33,10 @@ returns-clause-all g c = λ t u.
     let before = g.R.Rig.counts c.args.rig.now in
     let after = g.R.Rig.counts c.serve.new.rig in
     let rest : List ℕ = g.S.Source.rest c.args.source.now in
-    let size = (g.met.R.Rig.shows_image c.args.rig.now Disk t).same_length ∙ g.met.R.Rig.has_size c.args.rig.now Disk t in
-    let scratch : c.in_ok-scratch.scratch ≡ first_scratch c.args.plan (length (shown Disk old)) = c.in_ok-scratch.ensures ∙ ap (first_scratch c.args.plan) (sym size) in
-    subst (λ (h : Held). IfOk c.serve.result (λ faulted. AnsweredAll print (scratch_sizes (first_scratch c.args.plan (length (shown Disk old)))) (scratch_state (first_scratch c.args.plan (length (shown Disk old))) old)
-    (commands_of (first_scratch c.args.plan (length (shown Disk old))).blocks (left h rest)) faulted old.said new.said before after)) c.in_ok-reader.ensures
+    let size : ℕ = g.R.Rig.device_size c.args.rig.now Disk in
+    let scratch : c.in_ok-scratch.scratch ≡ first_scratch c.args.plan size = c.in_ok-scratch.ensures in
+    subst (λ (h : Held). IfOk c.serve.result (λ faulted. AnsweredAll print (scratch_sizes (first_scratch c.args.plan size)) (scratch_state (first_scratch c.args.plan size) old)
+    (commands_of (first_scratch c.args.plan size).blocks (left h rest)) faulted old.said new.said before after)) c.in_ok-reader.ensures
     (subst (λ (k : Scratch). IfOk c.serve.result (λ faulted. AnsweredAll print (scratch_sizes k) (scratch_state k old) (commands_of k.blocks (left c.in_ok-reader.reader rest)) faulted old.said new.said before after)) scratch (c.serve.ensures.all t u))
 
 pub returns-clause-some : goal.returns-clause-some
@@ -47,45 +47,42 @@ returns-clause-some g c = λ t u.
     let before = g.R.Rig.counts c.args.rig.now in
     let after = g.R.Rig.counts c.serve.new.rig in
     let rest : List ℕ = g.S.Source.rest c.args.source.now in
-    let size = (g.met.R.Rig.shows_image c.args.rig.now Disk t).same_length ∙ g.met.R.Rig.has_size c.args.rig.now Disk t in
-    let scratch : c.in_ok-scratch.scratch ≡ first_scratch c.args.plan (length (shown Disk old)) = c.in_ok-scratch.ensures ∙ ap (first_scratch c.args.plan) (sym size) in
-    subst (λ (h : Held). IfErr c.serve.result (λ halt. AnsweredUpTo print (scratch_sizes (first_scratch c.args.plan (length (shown Disk old)))) (scratch_state (first_scratch c.args.plan (length (shown Disk old))) old)
-    (commands_of (first_scratch c.args.plan (length (shown Disk old))).blocks (left h rest)) halt old.said new.said before after)) c.in_ok-reader.ensures
+    let size : ℕ = g.R.Rig.device_size c.args.rig.now Disk in
+    let scratch : c.in_ok-scratch.scratch ≡ first_scratch c.args.plan size = c.in_ok-scratch.ensures in
+    subst (λ (h : Held). IfErr c.serve.result (λ halt. AnsweredUpTo print (scratch_sizes (first_scratch c.args.plan size)) (scratch_state (first_scratch c.args.plan size) old)
+    (commands_of (first_scratch c.args.plan size).blocks (left h rest)) halt old.said new.said before after)) c.in_ok-reader.ensures
     (subst (λ (k : Scratch). IfErr c.serve.result (λ halt. AnsweredUpTo print (scratch_sizes k) (scratch_state k old) (commands_of k.blocks (left c.in_ok-reader.reader rest)) halt old.said new.said before after)) scratch (c.serve.ensures.some t u))
 
 pub returns-clause-bounded : goal.returns-clause-bounded
-returns-clause-bounded g c = λ t u.
-    let old : World = g.R.Rig.world c.args.rig.now in
+returns-clause-bounded g c = λ u.
     let rest : List ℕ = g.S.Source.rest c.args.source.now in
-    let size = (g.met.R.Rig.shows_image c.args.rig.now Disk t).same_length ∙ g.met.R.Rig.has_size c.args.rig.now Disk t in
-    let scratch : c.in_ok-scratch.scratch ≡ first_scratch c.args.plan (length (shown Disk old)) = c.in_ok-scratch.ensures ∙ ap (first_scratch c.args.plan) (sym size) in
-    subst (λ (h : Held). OnOk c.serve.result (EndsWithin (fuel h) (first_scratch c.args.plan (length (shown Disk old))).blocks (left h rest))) c.in_ok-reader.ensures
+    let size : ℕ = g.R.Rig.device_size c.args.rig.now Disk in
+    let scratch : c.in_ok-scratch.scratch ≡ first_scratch c.args.plan size = c.in_ok-scratch.ensures in
+    subst (λ (h : Held). OnOk c.serve.result (EndsWithin (fuel h) (first_scratch c.args.plan size).blocks (left h rest))) c.in_ok-reader.ensures
     (subst (λ (k : Scratch). OnOk c.serve.result (EndsWithin (fuel c.in_ok-reader.reader) k.blocks (left c.in_ok-reader.reader rest))) scratch (c.serve.ensures.bounded u))
 
 pub returns-clause-halt : goal.returns-clause-halt
 returns-clause-halt g c =
-    let old : World = g.R.Rig.world c.args.rig.now in
     let rest : List ℕ = g.S.Source.rest c.args.source.now in
     let counts = g.R.Rig.counts in
     let failures = g.S.Source.failures in
     let P : Type 0 = g.S.Source.tells → EndsWithin (fuel c.in_ok-reader.reader) c.in_ok-scratch.scratch.blocks (left c.in_ok-reader.reader rest) → ⊥ in
-    let Q : Type 0 = g.R.Rig.tells → g.S.Source.tells → IsBounded c.args.plan old rest → ⊥ in
-    let w : P → Q = λ long t u within.
-    let size = (g.met.R.Rig.shows_image c.args.rig.now Disk t).same_length ∙ g.met.R.Rig.has_size c.args.rig.now Disk t in
-    let scratch : first_scratch c.args.plan (length (shown Disk old)) ≡ c.in_ok-scratch.scratch = sym (c.in_ok-scratch.ensures ∙ ap (first_scratch c.args.plan) (sym size)) in
+    let Q : Type 0 = g.S.Source.tells → IsBounded c.args.plan (g.R.Rig.device_size c.args.rig.now Disk) rest → ⊥ in
+    let w : P → Q = λ long u within.
+    let size : ℕ = g.R.Rig.device_size c.args.rig.now Disk in
+    let scratch : first_scratch c.args.plan size ≡ c.in_ok-scratch.scratch = sym c.in_ok-scratch.ensures in
     long u (subst (λ (k : Scratch). EndsWithin (fuel c.in_ok-reader.reader) k.blocks (left c.in_ok-reader.reader rest)) scratch
-    (subst (λ (h : Held). EndsWithin (fuel h) (first_scratch c.args.plan (length (shown Disk old))).blocks (left h rest)) (sym c.in_ok-reader.ensures) within)) in
+    (subst (λ (h : Held). EndsWithin (fuel h) (first_scratch c.args.plan size).blocks (left h rest)) (sym c.in_ok-reader.ensures) within)) in
     IfErr-weaker c.serve.result
     (λ (halt : Halt). Halts P halt (counts c.args.rig.now) (counts c.serve.new.rig) (failures c.args.source.now) (failures c.serve.new.source))
     (λ (halt : Halt). Halts Q halt (counts c.args.rig.now) (counts c.serve.new.rig) (failures c.args.source.now) (failures c.serve.new.source))
     (λ halt s. halts_by P Q w halt _ _ _ _ s) c.serve.ensures.halt
 
 pub returns-clause-taken : goal.returns-clause-taken
-returns-clause-taken g c = λ t u.
-    let old : World = g.R.Rig.world c.args.rig.now in
+returns-clause-taken g c = λ u.
     let rest : List ℕ = g.S.Source.rest c.args.source.now in
     let rest_after : List ℕ = g.S.Source.rest c.serve.new.source in
-    let size = (g.met.R.Rig.shows_image c.args.rig.now Disk t).same_length ∙ g.met.R.Rig.has_size c.args.rig.now Disk t in
-    let scratch : c.in_ok-scratch.scratch ≡ first_scratch c.args.plan (length (shown Disk old)) = c.in_ok-scratch.ensures ∙ ap (first_scratch c.args.plan) (sym size) in
-    subst (λ (h : Held). OnOk c.serve.result (IsTakenTo (first_scratch c.args.plan (length (shown Disk old))).blocks (left h rest) rest_after)) c.in_ok-reader.ensures
+    let size : ℕ = g.R.Rig.device_size c.args.rig.now Disk in
+    let scratch : c.in_ok-scratch.scratch ≡ first_scratch c.args.plan size = c.in_ok-scratch.ensures in
+    subst (λ (h : Held). OnOk c.serve.result (IsTakenTo (first_scratch c.args.plan size).blocks (left h rest) rest_after)) c.in_ok-reader.ensures
     (subst (λ (k : Scratch). OnOk c.serve.result (IsTakenTo k.blocks (left c.in_ok-reader.reader rest) rest_after)) scratch (c.serve.ensures.taken u))

@@ -27,8 +27,9 @@ use Rattle.dd_serve.specs.declared.words.Plan.{Plan}
 use Rattle.dd_serve.specs.Causes.{Halts}
 use Rattle.dd_serve.specs.Answering.{Sofar, HasFault, AnsweredAll, AnsweredUpTo}
 use Rattle.dd_serve.specs.Calls.{AsksForLines, loads_in, unfinished}
+use Rattle.dd_serve.specs.Ending.{stopped_status}
 use Rattle.dd_serve.specs.Saying.{IsIdle, SaysAlone}
-use Rattle.dd_serve.specs.Replays.{Replays, EndsIn, IsBounded, last_line, status_of, said_since, lines_since, replay_sizes, replay_start, replay_commands, replay_output}
+use Rattle.dd_serve.specs.Replays.{Replays, EndsIn, IsBounded, last_line, said_since, lines_since, plan_sizes, replay_start, replay_commands, replay_output}
 use Rattle.dd_serve.proofs.Costs.{faults_snoc, asks_stop, asks_still, asks_weaker}
 use Rattle.dd_serve.proofs.Going.{flat_snoc, whole_snoc, no_faults, cut_some, cut_part, front_no_end}
 
@@ -76,15 +77,15 @@ status_for true = 1
 not_both : (a b c d : ℕ) → a ≤ b → c ≤ d → IsStill a d → Rose b c → ⊥
 not_both a b c d h k still rose = omega (arith, h, k, still.0, still.1, rose)
 
-module _ (print : List ℕ → Fp) (plan : Plan) (script : List ℕ) (old : World) (before : Counts) where
+module _ (print : List ℕ → Fp) (plan : Plan) (disk : ℕ) (script : List ℕ) (old : World) (before : Counts) where
   abbrev sizes : Sizes
-  sizes = replay_sizes plan old
+  sizes = plan_sizes plan disk
 
   abbrev start : State
-  start = replay_start plan old
+  start = replay_start plan disk old
 
   abbrev commands : List Command
-  commands = replay_commands plan old script
+  commands = replay_commands plan disk script
 
   abbrev SofarAt : World → Counts → Type 0
   SofarAt new end = Sofar print sizes start commands old.said new.said before end
@@ -125,7 +126,7 @@ module _ (print : List ℕ → Fp) (plan : Plan) (script : List ℕ) (old : Worl
   loads_so false new end s fault loads zero_is = subst (λ (l : List (List ℕ)). end.disk.reads ≤ before.disk.reads + loads_in l) (sym (ap (λ (l : Lines). l.whole) (lines_are new end s))) (omega (arith, loads.1.1.0, fault.0, fault.1))
   loads_so true new end s fault loads zero_is = absurd (omega arith)
 
-  exact_so : (faulted : Bool) (new : World) (end : Counts) (s : SofarAt new end) → s.left ≡ [] → s.rest ≡ [] → HasFault faulted s.lines → status_for faulted ≡ 0 → said_since old new ≡ replay_output print plan old script
+  exact_so : (faulted : Bool) (new : World) (end : Counts) (s : SofarAt new end) → s.left ≡ [] → s.rest ≡ [] → HasFault faulted s.lines → status_for faulted ≡ 0 → said_since old new ≡ replay_output print plan disk old script
   exact_so false new end s none nothing fault zero_is =
       since_lines new end s ∙ ap (λ (l : List ℕ). flat_map ended s.lines ++ l) nothing ∙ append-nil (flat_map ended s.lines)
       ∙ all_replies print sizes s.lines start s.state commands (subst (λ (l : List Command). Answered print sizes start commands s.lines s.state l) none s.answered) fault.0 fault.1
@@ -144,7 +145,7 @@ module _ (print : List ℕ → Fp) (plan : Plan) (script : List ℕ) (old : Worl
   status_small true e = omega arith
 
   -- each command was answered
-  pub serves_all : (faulted : Bool) (new : World) (end : Counts) → AnsweredAll print sizes start commands faulted old.said new.said before end → IsBounded plan old script → Replays print plan (status_for faulted) script old new before end
+  pub serves_all : (faulted : Bool) (new : World) (end : Counts) → AnsweredAll print sizes start commands faulted old.said new.said before end → IsBounded plan disk script → Replays print plan disk (status_for faulted) script old new before end
   serves_all faulted new end served bounded =
       let s = served.sofar in
       let are = lines_are new end s in
@@ -169,7 +170,7 @@ module _ (print : List ℕ → Fp) (plan : Plan) (script : List ℕ) (old : Worl
       }
 
   -- an emit failed
-  pub serves_cut : (new : World) (end : Counts) → AnsweredUpTo print sizes start commands Output old.said new.said before end → Rose before.failed_emits end.failed_emits → Replays print plan 6 script old new before end
+  pub serves_cut : (new : World) (end : Counts) → AnsweredUpTo print sizes start commands Output old.said new.said before end → Rose before.failed_emits end.failed_emits → Replays print plan disk 6 script old new before end
   serves_cut new end served rose =
       let s = served.sofar in
       record {
@@ -187,6 +188,13 @@ module _ (print : List ℕ → Fp) (plan : Plan) (script : List ℕ) (old : Worl
         bounded = λ small. absurd (omega arith);
         long = λ e. absurd (omega arith);
       }
+
+  -- an ending that has no line says nothing more
+  pub ends_silent : (status last : ℕ) (new later : World) (end after : Counts) → later ≡ new → after ≡ end → status ≡ last → Replays print plan disk status script old new before end → Replays print plan disk last script old later before after
+  ends_silent status last new later end after same calls is h =
+      subst (λ (n : ℕ). Replays print plan disk n script old later before after) is
+      (subst (λ (k : Counts). Replays print plan disk status script old later before k) (sym calls)
+      (subst (λ (w : World). Replays print plan disk status script old w before end) (sym same) h))
 
   stop_no_end : (why : Stop) → HasNoEnd (stop_text why)
   stop_no_end stop.Flash = search rules
@@ -207,7 +215,7 @@ module _ (print : List ℕ → Fp) (plan : Plan) (script : List ℕ) (old : Worl
   stop_no_fault stop.Length dev.Disk = refl
   stop_no_fault stop.Memory dev.Disk = refl
 
-  stop_status : (why : Stop) → 4 ≤ status_of why
+  stop_status : (why : Stop) → 4 ≤ stopped_status why
   stop_status stop.Flash = omega arith
   stop_status stop.Disk = omega arith
   stop_status stop.Script = omega arith
@@ -219,9 +227,9 @@ module _ (print : List ℕ → Fp) (plan : Plan) (script : List ℕ) (old : Worl
     pub sofar : SofarAt middle end
     pub some : sofar.left ≢ []
     pub nothing_more : sofar.rest ≡ []
-    pub last : last_line (status_of why) ≡ Some (stop_text why)
-    pub long : status_of why ≡ 8 → IsBounded plan old script → ⊥
-    pub asks : AsksForLines sizes sofar.lines (unfinished (status_of why)) before end
+    pub last : last_line (stopped_status why) ≡ Some (stop_text why)
+    pub long : stopped_status why ≡ 8 → IsBounded plan disk script → ⊥
+    pub asks : AsksForLines sizes sofar.lines (unfinished (stopped_status why)) before end
 
   faults_stop : (device : Dev) (why : Stop) (lines : List (List ℕ)) → faults_in device (lines ++ stop_text why ∷ []) ≡ faults_in device lines
   faults_stop device why lines = faults_snoc device lines (stop_text why) ∙ ap (λ n. faults_in device lines + n) (no_faults device (stop_text why) (stop_no_fault why device)) ∙ plus_none (faults_in device lines)
@@ -230,7 +238,7 @@ module _ (print : List ℕ → Fp) (plan : Plan) (script : List ℕ) (old : Worl
       plus_none n = omega arith
 
   -- the line of the status was said whole
-  stops_whole : (why : Stop) (middle new : World) (between end : Counts) → NeverFalls between end → IsIdle between end → StopsWith why middle between → new.said ≡ middle.said ++ ended (stop_text why) → Replays print plan (status_of why) script old new before end
+  stops_whole : (why : Stop) (middle new : World) (between end : Counts) → NeverFalls between end → IsIdle between end → StopsWith why middle between → new.said ≡ middle.said ++ ended (stop_text why) → Replays print plan disk (stopped_status why) script old new before end
   stops_whole why middle new between end later idle stops said =
       let s = stops.sofar in
       let line : List ℕ = stop_text why in
@@ -256,7 +264,7 @@ module _ (print : List ℕ → Fp) (plan : Plan) (script : List ℕ) (old : Worl
         fault = λ e. absurd (omega (arith, stop_status why, e));
         flash_faults = omega (arith, s.flash_faults, later.flash_reads, ap (faults_in dev.Flash) lines, faults_stop dev.Flash why s.lines);
         disk_faults = omega (arith, s.disk_faults, later.disk_reads, ap (faults_in dev.Disk) lines, faults_stop dev.Disk why s.lines);
-        asks = subst (λ (l : List (List ℕ)). AsksForLines sizes l (unfinished (status_of why)) before end) (sym lines) (asks_stop sizes s.lines why (unfinished (status_of why)) before end (asks_still sizes s.lines (unfinished (status_of why)) before between end idle stops.asks));
+        asks = subst (λ (l : List (List ℕ)). AsksForLines sizes l (unfinished (stopped_status why)) before end) (sym lines) (asks_stop sizes s.lines why (unfinished (stopped_status why)) before end (asks_still sizes s.lines (unfinished (stopped_status why)) before between end idle stops.asks));
         loads = λ e. absurd (omega (arith, stop_status why, e));
         last = subst (λ (o : Option (List ℕ)). IfSome o (λ l. EndsIn l (said_since old new) before end)) (sym stops.last) (s.lines, s.whole, inl since);
         bounded = λ small. absurd (omega (arith, stop_status why));
@@ -265,7 +273,7 @@ module _ (print : List ℕ → Fp) (plan : Plan) (script : List ℕ) (old : Worl
 
   -- a part of it was
   stops_part : (why : Stop) (middle new : World) (between end : Counts) (n : ℕ) → NeverFalls before between → NeverFalls between end → IsIdle between end → StopsWith why middle between → Rose between.failed_emits end.failed_emits
-      → new.said ≡ middle.said ++ take n (ended (stop_text why)) → n ≤ length (stop_text why) → Replays print plan (status_of why) script old new before end
+      → new.said ≡ middle.said ++ take n (ended (stop_text why)) → n ≤ length (stop_text why) → Replays print plan disk (stopped_status why) script old new before end
   stops_part why middle new between end n earlier later idle stops rose said short =
       let line : List ℕ = stop_text why in
       let first = stops.sofar in
@@ -293,7 +301,7 @@ module _ (print : List ℕ → Fp) (plan : Plan) (script : List ℕ) (old : Worl
         fault = λ e. absurd (omega (arith, stop_status why, e));
         flash_faults = flash_so new end s;
         disk_faults = disk_so new end s;
-        asks = asks_so (unfinished (status_of why)) new end s (asks_still sizes first.lines (unfinished (status_of why)) before between end idle stops.asks);
+        asks = asks_so (unfinished (stopped_status why)) new end s (asks_still sizes first.lines (unfinished (stopped_status why)) before between end idle stops.asks);
         loads = λ e. absurd (omega (arith, stop_status why, e));
         last = subst (λ (o : Option (List ℕ)). IfSome o (λ l. EndsIn l (said_since old new) before end)) (sym stops.last)
             (first.lines, first.whole, inr (omega (arith, earlier.emits, rose), n, since_lines new end s ∙ ap (λ (l : List ℕ). flat_map ended first.lines ++ l) (sym (cut_part line n short))));
@@ -307,28 +315,28 @@ module _ (print : List ℕ → Fp) (plan : Plan) (script : List ℕ) (old : Worl
 
   -- the line of the status was said, or an emit failed
   pub stops_alone : (why : Stop) (middle new : World) (between end : Counts) → NeverFalls before between → NeverFalls between end → IsIdle between end → StopsWith why middle between → SaysAlone (stop_text why) between end middle new
-      → Replays print plan (status_of why) script old new before end
+      → Replays print plan disk (stopped_status why) script old new before end
   stops_alone why middle new between end earlier later idle stops (inl said) = stops_whole why middle new between end later idle stops said
   stops_alone why middle new between end earlier later idle stops (inr (rose, n, said)) = ⊎_elim
       (λ (long : length (stop_text why) < n). stops_whole why middle new between end later idle stops (said ∙ ap (λ (l : List ℕ). middle.said ++ l) (cut_some (stop_text why) n long)))
       (λ (short : n ≤ length (stop_text why)). stops_part why middle new between end n earlier later idle stops rose said short)
       (cases_lt (length (stop_text why)) n)
 
-  halts_last : (why : Stop) (long : Type 0) (a b : Counts) (m n : ℕ) → Halts long (Stopped why) a b m n → last_line (status_of why) ≡ Some (stop_text why)
+  halts_last : (why : Stop) (long : Type 0) (a b : Counts) (m n : ℕ) → Halts long (Stopped why) a b m n → last_line (stopped_status why) ≡ Some (stop_text why)
   halts_last stop.Flash long a b m n h = refl
   halts_last stop.Disk long a b m n h = absurd h
   halts_last stop.Script long a b m n h = refl
   halts_last stop.Length long a b m n h = refl
   halts_last stop.Memory long a b m n h = refl
 
-  halts_long : (why : Stop) (long : Type 0) (a b : Counts) (m n : ℕ) → Halts long (Stopped why) a b m n → status_of why ≡ 8 → long
+  halts_long : (why : Stop) (long : Type 0) (a b : Counts) (m n : ℕ) → Halts long (Stopped why) a b m n → stopped_status why ≡ 8 → long
   halts_long stop.Flash long a b m n h e = absurd (omega arith)
   halts_long stop.Disk long a b m n h e = absurd h
   halts_long stop.Script long a b m n h e = absurd (omega arith)
   halts_long stop.Length long a b m n h e = h
   halts_long stop.Memory long a b m n h e = absurd h
 
-  halts_asks : (why : Stop) (long : Type 0) (a b : Counts) (m n : ℕ) → Halts long (Stopped why) a b m n → (lines : List (List ℕ)) → AsksForLines sizes lines 1 before b → AsksForLines sizes lines (unfinished (status_of why)) before b
+  halts_asks : (why : Stop) (long : Type 0) (a b : Counts) (m n : ℕ) → Halts long (Stopped why) a b m n → (lines : List (List ℕ)) → AsksForLines sizes lines 1 before b → AsksForLines sizes lines (unfinished (stopped_status why)) before b
   halts_asks stop.Flash long a b m n h lines asks = asks
   halts_asks stop.Disk long a b m n h lines asks = absurd h
   halts_asks stop.Script long a b m n h lines asks = asks
@@ -337,18 +345,18 @@ module _ (print : List ℕ → Fp) (plan : Plan) (script : List ℕ) (old : Worl
 
   -- serving halted
   pub stops_served : (why : Stop) (middle : World) (end : Counts) (m n : ℕ) → AnsweredUpTo print sizes start commands (Stopped why) old.said middle.said before end
-      → Halts (IsBounded plan old script → ⊥) (Stopped why) before end m n → StopsWith why middle end
+      → Halts (IsBounded plan disk script → ⊥) (Stopped why) before end m n → StopsWith why middle end
   stops_served why middle end m n served halts = record {
     sofar = served.sofar;
     some = served.halts.0;
     nothing_more = served.halts.1;
-    last = halts_last why (IsBounded plan old script → ⊥) before end m n halts;
-    long = halts_long why (IsBounded plan old script → ⊥) before end m n halts;
-    asks = halts_asks why (IsBounded plan old script → ⊥) before end m n halts served.sofar.lines served.sofar.asks;
+    last = halts_last why (IsBounded plan disk script → ⊥) before end m n halts;
+    long = halts_long why (IsBounded plan disk script → ⊥) before end m n halts;
+    asks = halts_asks why (IsBounded plan disk script → ⊥) before end m n halts served.sofar.lines served.sofar.asks;
   }
 
   -- it never began: no more than a read of the flash was made
-  pub stops_early : (why : Stop) (between : Counts) → NeverFalls before between → AsksForLines sizes [] 0 before between → last_line (status_of why) ≡ Some (stop_text why) → (status_of why ≡ 8 → ⊥)
+  pub stops_early : (why : Stop) (between : Counts) → NeverFalls before between → AsksForLines sizes [] 0 before between → last_line (stopped_status why) ≡ Some (stop_text why) → (stopped_status why ≡ 8 → ⊥)
       → commands ≢ [] → StopsWith why old between
   stops_early why between later asks last not_long some = record {
     sofar = record {
@@ -372,7 +380,7 @@ module _ (print : List ℕ → Fp) (plan : Plan) (script : List ℕ) (old : Worl
     asks = early_asks why between asks;
   }
     where
-      early_asks : (why : Stop) (between : Counts) → AsksForLines sizes [] 0 before between → AsksForLines sizes [] (unfinished (status_of why)) before between
+      early_asks : (why : Stop) (between : Counts) → AsksForLines sizes [] 0 before between → AsksForLines sizes [] (unfinished (stopped_status why)) before between
       early_asks stop.Flash between h = asks_weaker sizes [] before between h
       early_asks stop.Disk between h = asks_weaker sizes [] before between h
       early_asks stop.Script between h = asks_weaker sizes [] before between h
@@ -380,7 +388,7 @@ module _ (print : List ℕ → Fp) (plan : Plan) (script : List ℕ) (old : Worl
       early_asks stop.Memory between h = h
 
 -- a run that stops has a status of its own
-pub stop_large : (why : Stop) → 4 ≤ status_of why
+pub stop_large : (why : Stop) → 4 ≤ stopped_status why
 stop_large stop.Flash = omega arith
 stop_large stop.Disk = omega arith
 stop_large stop.Script = omega arith
