@@ -30,6 +30,7 @@ use dd_slots::Slots;
 use std::alloc::{AllocError, Global};
 use std::marker::Model;
 
+mod accessors;
 mod ticks;
 
 /// A cache over two devices: the array and both recency lists, of which what is committed survives a
@@ -115,41 +116,6 @@ impl<F: Fingerprint, L: Lists> Store<F, L> {
             laid: Vec::with_capacity(alloc, geo.group as usize)?,
             block: vec![in alloc; 0; geo.block as usize]?,
         })
-    }
-
-    /// Whether the store may be called. It is down for ever after a write or a sync that failed.
-    pub fn is_up(&self) -> bool
-        ensures { result ≡ self.now.store.is_up }
-    {
-        self.up
-    }
-
-    /// How many references there were.
-    pub fn count(&self) -> u64
-        ensures { result ≡ self.now.store.count }
-    {
-        self.count
-    }
-
-    /// How many references are committed.
-    pub fn committed(&self) -> u64
-        ensures { result ≡ self.now.store.journal.committed }
-    {
-        self.journal.committed()
-    }
-
-    /// The epoch of the journal.
-    pub fn epoch(&self) -> u64
-        ensures { result ≡ self.now.store.journal.epoch }
-    {
-        self.journal.epoch()
-    }
-
-    /// How many addresses are laid.
-    pub fn laid(&self) -> u32
-        ensures { result ≡ length self.now.store.laid }
-    {
-        self.laid.len() as u32
     }
 
     // Commits what is pending. The slots that waited are free then.
