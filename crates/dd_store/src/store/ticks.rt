@@ -34,6 +34,7 @@ impl<F: Fingerprint, L: Lists> Store<F, L> {
         ensures fault { IfErr result (λ fault. fault ≢ DiskRead) }
         ensures up { StaysUp result self.new.store }
         ensures print { self.new.print ≡ self.old.print }
+        ensures forgets { self.new.store.laid ≡ [] }
         ensures geometry { self.new.store.journal.geo ≡ self.old.store.journal.geo }
         ensures count { self.new.store.count ≡ self.old.store.count }
         ensures grows { GrowsLittle self.old.store self.new.store }
@@ -66,6 +67,7 @@ impl<F: Fingerprint, L: Lists> Store<F, L> {
         ensures fault { IfErr result (λ fault. fault ≢ DiskRead) }
         ensures up { StaysUp result self.new.store }
         ensures print { self.new.print ≡ self.old.print }
+        ensures forgets { self.new.store.laid ≡ [] }
         ensures geometry { self.new.store.journal.geo ≡ self.old.store.journal.geo }
         ensures count { self.new.store.count ≡ self.old.store.count }
         ensures grows { GrowsLittle self.old.store self.new.store }
@@ -77,7 +79,13 @@ impl<F: Fingerprint, L: Lists> Store<F, L> {
             Err(fault) => Err(fault),
             Ok(()) => match self.lay(rig, address) {
                 Err(fault) => Err(fault),
-                Ok(()) => self.mark(rig),
+                Ok(()) => match self.mark(rig) {
+                    Err(fault) => {
+                        self.laid.clear();
+                        Err(fault)
+                    }
+                    Ok(()) => Ok(()),
+                },
             },
         }
     }
