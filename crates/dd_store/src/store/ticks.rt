@@ -1,14 +1,15 @@
 // One dirty address is written back.
-ghost use Rattle.std.specs.Prelude.{◌≡◌, ◌≢◌, ◌<◌, [], ◌∷◌, true, Ok, None, IfOk, IfSome, IfErr, OnOk};
+ghost use Rattle.std.specs.Prelude.{◌≡◌, ◌≢◌, ◌-◌, ◌^◌, ◌<◌, [], ◌∷◌, true, Ok, None, IfOk, IfSome, IfErr, OnOk};
 ghost use Rattle.dd_rig.specs.Clock.{Elapses};
 ghost use Rattle.dd_rig.specs.Counts.{Frame, CalledAtMost, up_to};
 ghost use Rattle.dd_layout.specs.Layout.{disk_block};
 ghost use Rattle.dd_record.specs.Table.{is_dirty_at};
 ghost use Rattle.dd_model.specs.State.{State, content};
 ghost use Rattle.dd_model.specs.Listing.{next_of};
-ghost use Rattle.dd_store.specs.declared.fault.StoreFault.TheVariants.{DiskRead};
+ghost use Rattle.dd_store.specs.declared.fault.StoreFault.TheVariants.{FlashRead, DiskRead};
 ghost use Rattle.dd_store.specs.Keeping.{Kept};
-ghost use Rattle.dd_store.specs.Serving.{written_back, MayCall, Serves, StaysUp, Faulted, GrowsLittle};
+ghost use Rattle.dd_store.specs.Committing.{committed_store};
+ghost use Rattle.dd_store.specs.Serving.{written_back, unlaid, IsReady, MayCall, Serves, StaysUp, Faulted, GrowsLittle};
 
 use super::Store;
 use crate::StoreFault;
@@ -31,6 +32,7 @@ impl<F: Fingerprint, L: Lists> Store<F, L> {
         ensures oldest { IfOk result (λ done. done ≡ next_of None self.old.store.dirty) }
         ensures ages { IfOk result (λ done. IfSome done (λ address. self.old.store.dirty ≡ address ∷ self.new.store.dirty)) }
         ensures idle { self.old.store.dirty ≡ [] → (result ≡ Ok None) × (rig.new ≡ rig.old) }
+        ensures rows { IfErr result (λ fault. fault ≡ FlashRead → self.new.store ≡ committed_store (unlaid self.old.store) self.new.store.journal) }
         ensures fault { IfErr result (λ fault. fault ≢ DiskRead) }
         ensures up { StaysUp result self.new.store }
         ensures print { self.new.print ≡ self.old.print }
@@ -56,7 +58,8 @@ impl<F: Fingerprint, L: Lists> Store<F, L> {
 
     // Commits, lays a dirty address and marks it clean.
     fn write_back<R: Rig>(&mut self, rig: &mut R, address: u32) -> Result<(), StoreFault>
-        requires call { MayCall self.old.store (R.device_size rig.old) }
+        requires call { IsReady self.old.store (R.device_size rig.old) }
+        requires epoch { self.old.store.journal.epoch < 2 ^ 64 - 1 }
         requires below { address < self.old.store.journal.geo.blocks }
         requires dirty { is_dirty_at address self.old.store.table.a ≡ true }
         ensures serves { R.tells → (c s : State) → Kept (F.printed self.old.print) self.old.store (R.world rig.old) c s
@@ -64,6 +67,7 @@ impl<F: Fingerprint, L: Lists> Store<F, L> {
         ensures unsaid { R.tells → Elapses (R.clock rig.old) (R.clock rig.new) (λ o. o.out ≡ (R.world rig.old).said) }
         ensures said { R.tells → (R.world rig.new).said ≡ (R.world rig.old).said }
         ensures store { OnOk result (self.new.store ≡ written_back address self.old.store self.new.store.journal) }
+        ensures rows { IfErr result (λ fault. fault ≡ FlashRead → self.new.store ≡ committed_store (unlaid self.old.store) self.new.store.journal) }
         ensures fault { IfErr result (λ fault. fault ≢ DiskRead) }
         ensures up { StaysUp result self.new.store }
         ensures print { self.new.print ≡ self.old.print }
