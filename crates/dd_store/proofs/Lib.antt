@@ -4,6 +4,7 @@ pub mod Committing
 pub mod Flushing
 pub mod Kept
 pub mod Growing
+pub mod Known
 pub mod Laying
 pub mod LayingOne
 pub mod LayingRow

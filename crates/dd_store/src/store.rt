@@ -31,6 +31,7 @@ use std::alloc::{AllocError, Global};
 use std::marker::Model;
 
 mod accessors;
+mod refers;
 mod ticks;
 
 /// A cache over two devices: the array and both recency lists, of which what is committed survives a
