@@ -3,6 +3,8 @@ pub mod Altering
 pub mod Committing
 pub mod Flushing
 pub mod Kept
+pub mod Growing
+pub mod Known
 pub mod Laying
 pub mod LayingOne
 pub mod LayingRow
@@ -20,5 +22,6 @@ pub mod Sole
 pub mod Sure
 pub mod Uses
 pub mod Telling
+pub mod Ticking
 pub mod UsedSlots
 pub mod Using

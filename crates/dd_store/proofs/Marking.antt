@@ -158,7 +158,7 @@ none_raise : (ns : List ℕ) → count_by raises (clean_records ns) ≡ 0
 none_raise [] = refl
 none_raise (n ∷ ns) = omega (arith, none_raise ns)
 
-dirty_below : (geo : Geometry) (version at : ℕ) (rows : List ARow) → AllByRecursion (IsA geo version) rows → is_dirty_at at rows ≡ true → at < geo.blocks
+pub dirty_below : (geo : Geometry) (version at : ℕ) (rows : List ARow) → AllByRecursion (IsA geo version) rows → is_dirty_at at rows ≡ true → at < geo.blocks
 dirty_below geo version at [] h dirty = absurd (cc dirty)
 dirty_below geo version at (row ∷ rows) h dirty = by_test (λ e. dirty_below geo version at rows h.1 e) (row.address == at) refl dirty
   where

@@ -1,5 +1,5 @@
 -- Calls of a store one after the other.
-use Rattle.std.proofs.Common.{◌≡◌, ◌⊎◌, inl, inr, ⊎_elim, List, ℕ, ◌∙◌, subst}
+use Rattle.std.proofs.Common.{◌≡◌, ◌⊎◌, inl, inr, ⊎_elim, List, ℕ, sym, ◌∙◌, subst}
 use Rattle.std.specs.Prelude.{Result, Ok, Err}
 use Rattle.dd_block.specs.declared.print.Fp.{Fp}
 use Rattle.dd_rig.specs.Clock.{Clock, Elapses}
@@ -58,3 +58,10 @@ serves_err T U print first last store world c s next fault serves = record { cra
     by_fault DiskRead h = h
     by_fault FlashWrite h = h
     by_fault DiskWrite h = h
+
+-- a store that is down isn't spoken of
+pub serves_down : {T : Type 0} (print : List ℕ → Fp) (first last : Clock) (store other : StoreView) (world : World) (c s next : State) (fault : StoreFault) → fault ≡ DiskWrite
+    → Serves {T = T} print (Err fault) first last store world c s next → Serves {T = T} print (Err fault) first last other world c s next
+serves_down {T} print first last store other world c s next fault is serves =
+    let as_disk : Serves {T = T} print (Err DiskWrite) first last store world c s next = subst (λ (f : StoreFault). Serves {T = T} print (Err f) first last store world c s next) is serves in
+    subst (λ (f : StoreFault). Serves {T = T} print (Err f) first last other world c s next) (sym is) (record { crash = as_disk.crash; leaves = as_disk.leaves })

@@ -62,7 +62,7 @@ has_filter slot k (row ∷ b) = by_test (row.slot == k) refl (has_filter slot k 
     by_test true is next = next ∙ gone (row.slot == slot) (slot == k) (has_slot slot b) (λ same. ap (λ n. n == k) (sym (eqb-true row.slot slot same)) ∙ is)
     by_test false is next = ap (λ h. row.slot == slot || h) next ∙ first_step (row.slot == slot) (slot == k) (has_slot slot b) (λ same. ap (λ n. n == k) (sym (eqb-true row.slot slot same)) ∙ is)
 
-has_moved : (slot : ℕ) (row : BRow) (b : List BRow) → has_slot slot (b_moved row b) ≡ (if slot == row.slot then true else has_slot slot b)
+pub has_moved : (slot : ℕ) (row : BRow) (b : List BRow) → has_slot slot (b_moved row b) ≡ (if slot == row.slot then true else has_slot slot b)
 has_moved slot row b = ap (λ h. row.slot == slot || h) (has_filter slot row.slot b) ∙ ap (λ t. t || (has_slot slot b && not (slot == row.slot))) (turned row.slot slot) ∙ by_test (slot == row.slot)
   where
     and_true : (h : Bool) → (h && true) ≡ h
@@ -73,7 +73,7 @@ has_moved slot row b = ap (λ h. row.slot == slot || h) (has_filter slot row.slo
     by_test true = refl
     by_test false = and_true (has_slot slot b)
 
-used_is : (o : Option Usage) → is_used o ≡ true → o ≡ Some Used
+pub used_is : (o : Option Usage) → is_used o ≡ true → o ≡ Some Used
 used_is None h = absurd (cc h)
 used_is (Some Free) h = absurd (cc h)
 used_is (Some Used) h = refl

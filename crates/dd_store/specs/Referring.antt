@@ -1,5 +1,6 @@
 -- A reference, told by its record.
-use Rattle.std.specs.Prelude.{◌≡◌, ◌⊎◌, ℕ, suc, ◌<◌, true, false, List, [], ◌∷◌, ◌++◌, length, Option, Some, None, if◌then◌else◌, slice_set, ⊤}
+use Rattle.std.specs.Prelude.{◌≡◌, ◌⊎◌, ℕ, suc, ◌<◌, Bool, true, false, List, [], ◌∷◌, ◌++◌, length, Option, Some, None, if◌then◌else◌, slice_set, ⊤}
+use Rattle.dd_block.specs.Geometry.{slot_count}
 use Rattle.dd_block.specs.declared.print.Fp.{Fp}
 use Rattle.dd_slots.specs.declared.usage.Usage.{Usage}
 use Rattle.dd_slots.specs.declared.usage.Usage.TheVariants.{Used, Waiting}
@@ -14,7 +15,9 @@ use Rattle.dd_model.specs.declared.kind.Kind.{Kind}
 use Rattle.dd_model.specs.declared.kind.Kind.TheVariants as kind
 use Rattle.dd_model.specs.declared.done.Done.{Done}
 use Rattle.dd_model.specs.State.{State, content, is_zero_block, is_known}
-use Rattle.dd_model.specs.Listing.{dirtied, cut_by}
+use Rattle.dd_model.specs.declared.given.Block.{Block}
+use Rattle.dd_model.specs.declared.given.Block.TheVariants as given
+use Rattle.dd_model.specs.Listing.{Listing, dirtied, cut_by}
 use Rattle.dd_store.specs.Keeping.{StoreView}
 
 -- a block's slot holds it with its fingerprint, and what has no slot is zeros
@@ -78,3 +81,13 @@ done_of store its touch = record { kind = kind_of its; cut = cut_by store.journa
 -- the same of the slots themselves
 abbrev pub slots_let_go : Option BRow → SlotsView → SlotsView
 slots_let_go cut slots = record slots { uses = let_go cut slots.uses }
+
+-- the lists of a store, as long as its geometry says
+abbrev pub listing_in : StoreView → Listing
+listing_in store = record { acap = store.journal.geo.acap; bcap = store.journal.geo.bcap; slots = slot_count store.journal.geo; table = store.table; dirty = store.dirty }
+
+-- whether a block is one that isn't listed yet
+abbrev pub is_fresh_block : Block → Bool
+is_fresh_block (given.Known slot) = false
+is_fresh_block (given.Fresh row) = true
+is_fresh_block given.Zero = false

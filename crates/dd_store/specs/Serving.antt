@@ -18,8 +18,8 @@ use Rattle.dd_journal.specs.Sitting.{JournalView}
 use Rattle.dd_store.specs.declared.fault.StoreFault.{StoreFault}
 use Rattle.dd_store.specs.declared.fault.StoreFault.TheVariants.{FlashRead, DiskRead, FlashWrite, DiskWrite}
 use Rattle.dd_store.specs.Keeping.{StoreView, Kept}
-use Rattle.dd_store.specs.Committing.{StandForEither, AllStandForEither}
-use Rattle.dd_store.specs.Laying.{laid_store}
+use Rattle.dd_store.specs.Committing.{StandForEither, AllStandForEither, committed_store}
+use Rattle.dd_store.specs.Laying.{laid_store, marked_store}
 
 -- when a store may lay and mark: it is up, and the devices are large enough
 pub record IsReady (store : StoreView) (size : Dev → ℕ) : Type 0 where
@@ -124,3 +124,7 @@ LaysOn (Err FlashRead) address old new = new ≡ unlaid old
 LaysOn (Err DiskRead) address old new = ⊥
 LaysOn (Err FlashWrite) address old new = ⊥
 LaysOn (Err DiskWrite) address old new = new ≡ downed old
+
+-- a store that committed, laid an address and marked it clean
+abbrev pub written_back : ℕ → StoreView → JournalView → StoreView
+written_back address store journal = marked_store (laid_store address (committed_store (unlaid store) journal))

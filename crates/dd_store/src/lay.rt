@@ -1,11 +1,11 @@
 // Blocks are written back to the disk.
-ghost use Rattle.std.specs.Prelude.{◌≡◌, ◌+◌, ◌<◌, ◌≤◌, [], ℕ, List, length, true, OnOk, OnErr, IfErr, IsTrue};
+ghost use Rattle.std.specs.Prelude.{◌≡◌, ◌<◌, ◌≤◌, [], ℕ, List, length, OnOk, OnErr, IfErr, IsTrue};
 ghost use Rattle.dd_block.specs.declared.print.Fp.{Fp};
 ghost use Rattle.dd_block.specs.Geometry.{slot_count};
 ghost use Rattle.dd_rig.specs.declared.device.Dev.TheVariants.{Flash, Disk};
 ghost use Rattle.dd_rig.specs.Clock.{Elapses, AddsNone};
 ghost use Rattle.dd_rig.specs.Counts.{Frame, Makes, up_to, nothing, Rose, plus, count_write, count_sync};
-ghost use Rattle.dd_slots.specs.Slots.{SlotsView, block_in, slots_end, count_of};
+ghost use Rattle.dd_slots.specs.Slots.{block_in, slots_end};
 ghost use Rattle.dd_layout.specs.Layout.{disk_need};
 ghost use Rattle.dd_record.specs.Table.{is_link};
 ghost use Rattle.dd_model.specs.State.{State, content};

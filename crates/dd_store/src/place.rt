@@ -1,9 +1,9 @@
 // A new block gets a slot.
-ghost use Rattle.std.specs.Prelude.{◌≡◌, ◌≤◌, [], ℕ, List, length, true, false, Some, None, IfOk, IfSome, OnErr};
+ghost use Rattle.std.specs.Prelude.{◌≡◌, ◌≤◌, ℕ, List, length, Some, None, IfOk, IfSome, OnErr};
 ghost use Rattle.dd_block.specs.declared.print.Fp.{Fp};
 ghost use Rattle.dd_rig.specs.declared.device.Dev.TheVariants.{Flash};
 ghost use Rattle.dd_rig.specs.Clock.{Elapses};
-ghost use Rattle.dd_rig.specs.Counts.{Frame, Rose, count_write};
+ghost use Rattle.dd_rig.specs.Counts.{Frame, Makes, up_to, nothing, Rose};
 ghost use Rattle.dd_slots.specs.Slots.{Takes, slots_end, block_in};
 ghost use Rattle.dd_model.specs.State.{State};
 ghost use Rattle.dd_store.specs.Meaning.{Stands};
@@ -31,6 +31,7 @@ pub fn place_block<R: Rig>(
         → Kept print store (R.world rig.new) c s }
     ensures unsaid { R.tells → Elapses (R.clock rig.old) (R.clock rig.new) (λ o. o.out ≡ (R.world rig.old).said) }
     ensures said { R.tells → (R.world rig.new).said ≡ (R.world rig.old).said }
+    ensures calls { Makes (up_to 0 1 slots.old.block) nothing (R.counts rig.old) (R.counts rig.new) }
     ensures cause { OnErr result (Rose (R.counts rig.old).flash.failed_writes (R.counts rig.new).flash.failed_writes) }
     ensures frame { Frame (R.counts rig.old) (R.counts rig.new) (R.device_size rig.old) (R.device_size rig.new) }
 {

@@ -1,6 +1,5 @@
 // The store.
-ghost use Rattle.std.specs.Prelude.{◌≡◌, ◌⊎◌, ◌+◌, ◌-◌, ◌*◌, ◌^◌, ◌<◌, ◌≤◌, [], ℕ, List, length, true, IfOk, OnOk, OnErr, IfErr, IsTrue};
-ghost use Rattle.dd_block.specs.declared.print.Fp.{Fp};
+ghost use Rattle.std.specs.Prelude.{◌≡◌, ◌⊎◌, ◌+◌, ◌-◌, ◌*◌, ◌^◌, ◌<◌, ◌≤◌, [], length, true, Ok, None, IfOk, OnOk, OnErr, IfErr, IsTrue};
 ghost use Rattle.dd_rig.specs.declared.device.Dev.TheVariants.{Flash, Disk};
 ghost use Rattle.dd_rig.specs.Clock.{Elapses};
 ghost use Rattle.dd_rig.specs.Counts.{Frame, Makes, up_to, nothing, plus, count_sync};
@@ -10,11 +9,11 @@ ghost use Rattle.dd_journal.specs.Regions.{AreRows, snapshot_size};
 ghost use Rattle.dd_journal.specs.Sitting.{Sits, IsStable};
 ghost use Rattle.dd_store.specs.Meaning.{Means};
 ghost use Rattle.dd_store.specs.declared.fault.StoreFault.TheVariants.{FlashRead, DiskRead, FlashWrite, DiskWrite};
-ghost use Rattle.dd_store.specs.Keeping.{StoreView, IsStore, Kept};
+ghost use Rattle.dd_store.specs.Keeping.{IsStore, Kept};
 ghost use Rattle.dd_store.specs.Committing.{committed_store};
-ghost use Rattle.dd_store.specs.Laying.{MayLay, laid_store, marked_store};
+ghost use Rattle.dd_store.specs.Laying.{MayLay, marked_store};
 ghost use Rattle.dd_store.specs.Saving.{AreUsesOf};
-ghost use Rattle.dd_store.specs.Serving.{store_of, HasLimits, IsReady, MayCall, Serves, StaysUp, Faulted, GrowsLittle, IsLayFault, LaysOn, unlaid, downed};
+ghost use Rattle.dd_store.specs.Serving.{store_of, HasLimits, IsReady, MayCall, Serves, StaysUp, Faulted, GrowsLittle, LaysOn, unlaid, downed};
 
 use crate::StoreFault;
 use crate::commit::commit_rows;
@@ -30,6 +29,10 @@ use dd_rig::Rig;
 use dd_slots::Slots;
 use std::alloc::{AllocError, Global};
 use std::marker::Model;
+
+mod accessors;
+mod refers;
+mod ticks;
 
 /// A cache over two devices: the array and both recency lists, of which what is committed survives a
 /// crash.
@@ -114,41 +117,6 @@ impl<F: Fingerprint, L: Lists> Store<F, L> {
             laid: Vec::with_capacity(alloc, geo.group as usize)?,
             block: vec![in alloc; 0; geo.block as usize]?,
         })
-    }
-
-    /// Whether the store may be called. It is down for ever after a write or a sync that failed.
-    pub fn is_up(&self) -> bool
-        ensures { result ≡ self.now.store.is_up }
-    {
-        self.up
-    }
-
-    /// How many references there were.
-    pub fn count(&self) -> u64
-        ensures { result ≡ self.now.store.count }
-    {
-        self.count
-    }
-
-    /// How many references are committed.
-    pub fn committed(&self) -> u64
-        ensures { result ≡ self.now.store.journal.committed }
-    {
-        self.journal.committed()
-    }
-
-    /// The epoch of the journal.
-    pub fn epoch(&self) -> u64
-        ensures { result ≡ self.now.store.journal.epoch }
-    {
-        self.journal.epoch()
-    }
-
-    /// How many addresses are laid.
-    pub fn laid(&self) -> u32
-        ensures { result ≡ length self.now.store.laid }
-    {
-        self.laid.len() as u32
     }
 
     // Commits what is pending. The slots that waited are free then.

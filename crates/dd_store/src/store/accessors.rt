@@ -1,0 +1,65 @@
+// What a store tells without a call of a device.
+ghost use Rattle.std.specs.Prelude.{◌≡◌, length};
+
+use super::Store;
+use dd_block::{Fingerprint, Fp, Geometry};
+use dd_model::Lists;
+
+impl<F: Fingerprint, L: Lists> Store<F, L> {
+    /// Whether the store may be called. It is down for ever after a write or a sync that failed.
+    pub fn is_up(&self) -> bool
+        ensures { result ≡ self.now.store.is_up }
+    {
+        self.up
+    }
+
+    /// How many references there were.
+    pub fn count(&self) -> u64
+        ensures { result ≡ self.now.store.count }
+    {
+        self.count
+    }
+
+    /// How many references are committed.
+    pub fn committed(&self) -> u64
+        ensures { result ≡ self.now.store.journal.committed }
+    {
+        self.journal.committed()
+    }
+
+    /// The epoch of the journal.
+    pub fn epoch(&self) -> u64
+        ensures { result ≡ self.now.store.journal.epoch }
+    {
+        self.journal.epoch()
+    }
+
+    /// How many addresses are laid.
+    pub fn laid(&self) -> u32
+        ensures { result ≡ length self.now.store.laid }
+    {
+        self.laid.len() as u32
+    }
+
+    /// The numbers of the devices.
+    pub fn geometry(&self) -> Geometry
+        ensures { result ≡ self.now.store.journal.geo }
+    {
+        self.geo
+    }
+
+    /// Both recency lists.
+    pub fn lists(&self) -> &L
+        ensures table { (L.listing result.now).table ≡ self.now.store.table }
+        ensures dirty { (L.listing result.now).dirty ≡ self.now.store.dirty }
+    {
+        &self.lists
+    }
+
+    /// The fingerprint of these bytes, by what the store was made with.
+    pub fn fingerprint(&self, block: &[u8]) -> Fp
+        ensures { result ≡ F.printed self.now.print block.now }
+    {
+        self.print.print(block)
+    }
+}

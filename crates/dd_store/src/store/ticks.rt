@@ -1,0 +1,96 @@
+// One dirty address is written back.
+ghost use Rattle.std.specs.Prelude.{◌≡◌, ◌≢◌, ◌-◌, ◌^◌, ◌<◌, [], ◌∷◌, true, Ok, None, IfOk, IfSome, IfErr, OnOk};
+ghost use Rattle.dd_rig.specs.Clock.{Elapses};
+ghost use Rattle.dd_rig.specs.Counts.{Frame, CalledAtMost, up_to};
+ghost use Rattle.dd_layout.specs.Layout.{disk_block};
+ghost use Rattle.dd_record.specs.Table.{is_dirty_at};
+ghost use Rattle.dd_model.specs.State.{State, content};
+ghost use Rattle.dd_model.specs.Listing.{next_of};
+ghost use Rattle.dd_store.specs.declared.fault.StoreFault.TheVariants.{FlashRead, DiskRead};
+ghost use Rattle.dd_store.specs.Keeping.{Kept};
+ghost use Rattle.dd_store.specs.Committing.{committed_store};
+ghost use Rattle.dd_store.specs.Serving.{written_back, unlaid, IsReady, MayCall, Serves, StaysUp, Faulted, GrowsLittle};
+
+use super::Store;
+use crate::StoreFault;
+use dd_block::Fingerprint;
+use dd_model::Lists;
+use dd_rig::Rig;
+
+impl<F: Fingerprint, L: Lists> Store<F, L> {
+    /// Writes the address back that became dirty longest ago, where one is dirty, and answers it.
+    /// Where none is it makes no call. After `FlashRead` the store holds what it held; after
+    /// `FlashWrite` and `DiskWrite` it is down.
+    pub fn tick<R: Rig>(&mut self, rig: &mut R) -> Result<Option<u32>, StoreFault>
+        requires { MayCall self.old.store (R.device_size rig.old) }
+        ensures serves { R.tells → (c s : State) → Kept (F.printed self.old.print) self.old.store (R.world rig.old) c s
+            → Serves (F.printed self.old.print) result (R.clock rig.old) (R.clock rig.new) self.new.store (R.world rig.new) c s s }
+        ensures shows { R.tells → (c s : State) → Kept (F.printed self.old.print) self.old.store (R.world rig.old) c s
+            → IfOk result (λ done. IfSome done (λ address. disk_block self.old.store.journal.geo (R.world rig.new).disk.shown address ≡ content s.array address)) }
+        ensures unsaid { R.tells → Elapses (R.clock rig.old) (R.clock rig.new) (λ o. o.out ≡ (R.world rig.old).said) }
+        ensures said { R.tells → (R.world rig.new).said ≡ (R.world rig.old).said }
+        ensures oldest { IfOk result (λ done. done ≡ next_of None self.old.store.dirty) }
+        ensures ages { IfOk result (λ done. IfSome done (λ address. self.old.store.dirty ≡ address ∷ self.new.store.dirty)) }
+        ensures idle { self.old.store.dirty ≡ [] → (result ≡ Ok None) × (rig.new ≡ rig.old) }
+        ensures rows { IfErr result (λ fault. fault ≡ FlashRead → self.new.store ≡ committed_store (unlaid self.old.store) self.new.store.journal) }
+        ensures fault { IfErr result (λ fault. fault ≢ DiskRead) }
+        ensures up { StaysUp result self.new.store }
+        ensures print { self.new.print ≡ self.old.print }
+        ensures forgets { self.new.store.laid ≡ [] }
+        ensures geometry { self.new.store.journal.geo ≡ self.old.store.journal.geo }
+        ensures count { self.new.store.count ≡ self.old.store.count }
+        ensures grows { GrowsLittle self.old.store self.new.store }
+        ensures disk { CalledAtMost (up_to 0 2 self.old.store.journal.geo.block) (R.counts rig.old).disk (R.counts rig.new).disk }
+        ensures cause { IfErr result (λ fault. Faulted fault (R.counts rig.old) (R.counts rig.new)) }
+        ensures frame { Frame (R.counts rig.old) (R.counts rig.new) (R.device_size rig.old) (R.device_size rig.new) }
+    {
+        match self.lists.oldest_dirty() {
+            None => {
+                self.laid.clear();
+                Ok(None)
+            }
+            Some(address) => match self.write_back(rig, address) {
+                Err(fault) => Err(fault),
+                Ok(()) => Ok(Some(address)),
+            },
+        }
+    }
+
+    // Commits, lays a dirty address and marks it clean.
+    fn write_back<R: Rig>(&mut self, rig: &mut R, address: u32) -> Result<(), StoreFault>
+        requires call { IsReady self.old.store (R.device_size rig.old) }
+        requires epoch { self.old.store.journal.epoch < 2 ^ 64 - 1 }
+        requires below { address < self.old.store.journal.geo.blocks }
+        requires dirty { is_dirty_at address self.old.store.table.a ≡ true }
+        ensures serves { R.tells → (c s : State) → Kept (F.printed self.old.print) self.old.store (R.world rig.old) c s
+            → Serves (F.printed self.old.print) result (R.clock rig.old) (R.clock rig.new) self.new.store (R.world rig.new) c s s }
+        ensures unsaid { R.tells → Elapses (R.clock rig.old) (R.clock rig.new) (λ o. o.out ≡ (R.world rig.old).said) }
+        ensures said { R.tells → (R.world rig.new).said ≡ (R.world rig.old).said }
+        ensures store { OnOk result (self.new.store ≡ written_back address self.old.store self.new.store.journal) }
+        ensures rows { IfErr result (λ fault. fault ≡ FlashRead → self.new.store ≡ committed_store (unlaid self.old.store) self.new.store.journal) }
+        ensures fault { IfErr result (λ fault. fault ≢ DiskRead) }
+        ensures up { StaysUp result self.new.store }
+        ensures print { self.new.print ≡ self.old.print }
+        ensures forgets { self.new.store.laid ≡ [] }
+        ensures geometry { self.new.store.journal.geo ≡ self.old.store.journal.geo }
+        ensures count { self.new.store.count ≡ self.old.store.count }
+        ensures grows { GrowsLittle self.old.store self.new.store }
+        ensures disk { CalledAtMost (up_to 0 2 self.old.store.journal.geo.block) (R.counts rig.old).disk (R.counts rig.new).disk }
+        ensures cause { IfErr result (λ fault. Faulted fault (R.counts rig.old) (R.counts rig.new)) }
+        ensures frame { Frame (R.counts rig.old) (R.counts rig.new) (R.device_size rig.old) (R.device_size rig.new) }
+    {
+        match self.commit(rig) {
+            Err(fault) => Err(fault),
+            Ok(()) => match self.lay(rig, address) {
+                Err(fault) => Err(fault),
+                Ok(()) => match self.mark(rig) {
+                    Err(fault) => {
+                        self.laid.clear();
+                        Err(fault)
+                    }
+                    Ok(()) => Ok(()),
+                },
+            },
+        }
+    }
+}
