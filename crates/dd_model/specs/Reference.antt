@@ -1,5 +1,4 @@
 -- A reference, where zeros take no place among the blocks: an address becomes the most recent one, with a content that becomes the most recent block.
--- `Step` is the same where zeros are a block like any other; only the replay of today goes by it, and it goes when the replay moves here.
 use Rattle.std.specs.Prelude.{◌≡◌, ℕ, suc, ◌==◌, not, true, false, List, ◌∷◌, map, take, Option, Some, None, if◌then◌else◌, filter, option_map, slice_get, slice_set}
 use Rattle.std.specs.Str.{bytes_eq}
 use Rattle.dd_block.specs.declared.print.Fp.{Fp}

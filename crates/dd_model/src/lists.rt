@@ -4,7 +4,7 @@ ghost use Rattle.dd_block.specs.Geometry.{GivesFault};
 ghost use Rattle.dd_rig.specs.declared.device.Dev.TheVariants.{Flash as FlashDevice};
 ghost use Rattle.dd_rig.specs.World.{shown};
 ghost use Rattle.dd_rig.specs.Clock.{AddsNone};
-ghost use Rattle.dd_rig.specs.Counts.{Frame, Makes, up_to, nothing, Rose};
+ghost use Rattle.dd_rig.specs.Counts.{Frame, Makes, plus, up_to, nothing, Rose};
 ghost use Rattle.dd_slots.specs.Numbers.{Enumerates};
 ghost use Rattle.dd_slots.specs.Slots.{count_of, slots_end};
 
@@ -70,6 +70,8 @@ pub trait Lists: Rows + Drop {
         ensures world { R.tells → R.world rig.new ≡ R.world rig.old }
         ensures time { R.tells → AddsNone (R.clock rig.old) (R.clock rig.new) }
         ensures calls { Makes (up_to (candidates fp (listing self.now).table.b) 0 0) nothing (R.counts rig.old) (R.counts rig.new) }
+        ensures reads { plus (R.counts rig.old).flash.reads 0 ≤ (R.counts rig.new).flash.reads }
+        ensures disk { (R.counts rig.new).disk ≡ (R.counts rig.old).disk }
         ensures cause { OnErr result (Rose (R.counts rig.old).flash.failed_reads (R.counts rig.new).flash.failed_reads) }
         ensures frame { Frame (R.counts rig.old) (R.counts rig.new) (R.device_size rig.old) (R.device_size rig.new) };
 

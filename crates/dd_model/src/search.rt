@@ -5,7 +5,7 @@ ghost use Rattle.std.specs.List.{AllByRecursion, IsDistinct};
 ghost use Rattle.dd_rig.specs.declared.device.Dev.TheVariants.{Flash as FlashDevice};
 ghost use Rattle.dd_rig.specs.World.{shown};
 ghost use Rattle.dd_rig.specs.Clock.{AddsNone};
-ghost use Rattle.dd_rig.specs.Counts.{Frame, Makes, up_to, nothing, Rose};
+ghost use Rattle.dd_rig.specs.Counts.{Frame, Makes, plus, up_to, nothing, Rose};
 ghost use Rattle.dd_slots.specs.Slots.{count_of, slots_end};
 ghost use Rattle.dd_model.specs.Confirming.{IsCandidate, candidates, Confirms, IsThis};
 
@@ -33,6 +33,8 @@ pub(crate) fn confirm<R: Rig>(
     ensures world { R.tells → R.world rig.new ≡ R.world rig.old }
     ensures time { R.tells → AddsNone (R.clock rig.old) (R.clock rig.new) }
     ensures calls { Makes (up_to (candidates fp rows.now) 0 0) nothing (R.counts rig.old) (R.counts rig.new) }
+    ensures reads { plus (R.counts rig.old).flash.reads 0 ≤ (R.counts rig.new).flash.reads }
+    ensures disk { (R.counts rig.new).disk ≡ (R.counts rig.old).disk }
     ensures cause { OnErr result (Rose (R.counts rig.old).flash.failed_reads (R.counts rig.new).flash.failed_reads) }
     ensures frame { Frame (R.counts rig.old) (R.counts rig.new) (R.device_size rig.old) (R.device_size rig.new) }
 {
@@ -62,6 +64,8 @@ fn is_this<R: Rig>(
     ensures world { R.tells → R.world rig.new ≡ R.world rig.old }
     ensures time { R.tells → AddsNone (R.clock rig.old) (R.clock rig.new) }
     ensures calls { Makes (up_to (if bytes_eq row.fp.0 fp.0 then 1 else 0) 0 0) nothing (R.counts rig.old) (R.counts rig.new) }
+    ensures reads { plus (R.counts rig.old).flash.reads 0 ≤ (R.counts rig.new).flash.reads }
+    ensures disk { (R.counts rig.new).disk ≡ (R.counts rig.old).disk }
     ensures cause { OnErr result (Rose (R.counts rig.old).flash.failed_reads (R.counts rig.new).flash.failed_reads) }
     ensures frame { Frame (R.counts rig.old) (R.counts rig.new) (R.device_size rig.old) (R.device_size rig.new) }
 {

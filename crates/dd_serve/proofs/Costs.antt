@@ -1,5 +1,5 @@
 -- How often the devices were asked for lines.
-use Rattle.std.proofs.Common.{◌≡◌, ℕ, ◌+◌, ◌*◌, ◌≤◌, List, [], ◌∷◌, ◌++◌, refl, sym, ◌∙◌, ap, subst, arith, if◌then◌else◌}
+use Rattle.std.proofs.Common.{◌≡◌, ℕ, ◌+◌, ◌*◌, ◌≤◌, Bool, true, false, cond, not, List, [], ◌∷◌, ◌++◌, refl, sym, ◌∙◌, ap, subst, arith, if◌then◌else◌}
 use Rattle.std.specs.Prelude.{Option}
 use Rattle.std.specs.Str.{bytes_eq}
 use Rattle.std.proofs.lemmas.List.Sums.{sum_by-append}
@@ -11,8 +11,8 @@ use Rattle.dd_rig.specs.declared.tallies.Counts.{Counts}
 use Rattle.dd_rig.specs.Counts.{up_to}
 use Rattle.dd_model.specs.declared.kind.Kind.{Kind}
 use Rattle.dd_model.specs.declared.kind.Kind.TheVariants.{Hit, Join, Miss, Dup, New}
-use Rattle.dd_model.specs.State.{Sizes, State, content}
-use Rattle.dd_model.specs.Step.{read_answer}
+use Rattle.dd_model.specs.State.{Sizes, State, content, is_zero_block}
+use Rattle.dd_model.specs.Reference.{read_answer}
 use Rattle.dd_script.specs.Command.{Command, read, quit, bad}
 use Rattle.dd_script.specs.Output.{reply_line}
 use Rattle.dd_script.specs.declared.line.BadKind.{BadKind}
@@ -22,6 +22,7 @@ use Rattle.dd_script.specs.declared.reply.Stop.TheVariants as stop
 use Rattle.dd_script.specs.Text.{read_text, bye_text, bad_text, fault_text, stop_text}
 use Rattle.dd_script.specs.Answers.{faults_in}
 use Rattle.dd_serve.specs.Saying.{IsIdle}
+use Rattle.dd_serve.proofs.ZeroTexts.{zeros_told}
 use Rattle.dd_serve.specs.Calls.{Asks, AsksFor, AsksForLine, AsksForLines, is_hit, is_load, is_miss, hits_in, loads_in, misses_in, looks_in, slots_for, looks_for, writes_for}
 
 -- one line more in a list of lines
@@ -46,9 +47,14 @@ record Tells (line : List ℕ) (h q m : ℕ) : Type 0 where
   looks : looks_in (line ∷ []) ≡ q
   misses : misses_in (line ∷ []) ≡ m
 
-read_tells : (kind : Kind) (block : List ℕ) (out : Option ℕ) (drop : Option Fp) → Tells (read_text kind block out drop) (slots_for kind) (looks_for kind) (writes_for kind)
+-- a hit is counted where its block isn't zeros
+hit_counted : (b : Bool) → 0 + (if not b then 1 else 0) ≡ cond b 0 1
+hit_counted true = refl
+hit_counted false = refl
+
+read_tells : (kind : Kind) (block : List ℕ) (out : Option ℕ) (drop : Option Fp) → Tells (read_text kind block out drop) (slots_for kind block) (looks_for kind) (writes_for kind)
 unfolding read_text
-read_tells Hit block out drop = record { hits = refl; looks = refl; misses = refl }
+read_tells Hit block out drop = record { hits = ap (λ b. 0 + (if not b then 1 else 0)) (zeros_told block out drop) ∙ hit_counted (is_zero_block block); looks = refl; misses = refl }
 read_tells Join block out drop = record { hits = refl; looks = refl; misses = refl }
 read_tells Miss block out drop = record { hits = refl; looks = refl; misses = refl }
 read_tells Dup block out drop = record { hits = refl; looks = refl; misses = refl }
@@ -80,7 +86,7 @@ for_line sizes line h q m a b told asks =
     (subst (λ n. AsksFor sizes.block sizes.bcap (hits_in (line ∷ [])) n m a b) (sym told.looks)
     (subst (λ n. AsksFor sizes.block sizes.bcap n q m a b) (sym told.hits) asks))
 
-pub asks_read : (sizes : Sizes) (kind : Kind) (block : List ℕ) (out : Option ℕ) (drop : Option Fp) (a b : Counts) → AsksFor sizes.block sizes.bcap (slots_for kind) (looks_for kind) (writes_for kind) a b
+pub asks_read : (sizes : Sizes) (kind : Kind) (block : List ℕ) (out : Option ℕ) (drop : Option Fp) (a b : Counts) → AsksFor sizes.block sizes.bcap (slots_for kind block) (looks_for kind) (writes_for kind) a b
     → AsksForLine sizes (read_text kind block out drop) a b
 asks_read sizes kind block out drop a b asks = for_line sizes (read_text kind block out drop) _ _ _ a b (read_tells kind block out drop) asks
 
@@ -182,18 +188,23 @@ pub record AtMostOne (line : List ℕ) : Type 0 where
 tells_one : (line : List ℕ) (h q m : ℕ) → Tells line h q m → h ≤ 1 → q ≤ 1 → m ≤ 1 → AtMostOne line
 tells_one line h q m told a b d = record { hit = omega (arith, told.hits, a); look = omega (arith, told.looks, b); miss = omega (arith, told.misses, d) }
 
-one_kind : (kind : Kind) → (slots_for kind ≤ 1) × (looks_for kind ≤ 1) × (writes_for kind ≤ 1)
-one_kind Hit = (omega arith, omega arith, omega arith)
-one_kind Join = (omega arith, omega arith, omega arith)
-one_kind Miss = (omega arith, omega arith, omega arith)
-one_kind Dup = (omega arith, omega arith, omega arith)
-one_kind New = (omega arith, omega arith, omega arith)
+one_at_most : (b : Bool) → cond b 0 1 ≤ 1
+one_at_most true = omega arith
+one_at_most false = omega arith
+
+one_kind : (kind : Kind) (block : List ℕ) → (slots_for kind block ≤ 1) × (looks_for kind ≤ 1) × (writes_for kind ≤ 1)
+one_kind Hit block = (one_at_most (is_zero_block block), omega arith, omega arith)
+one_kind Join block = (omega arith, omega arith, omega arith)
+one_kind Miss block = (omega arith, omega arith, omega arith)
+one_kind Dup block = (omega arith, omega arith, omega arith)
+one_kind New block = (omega arith, omega arith, omega arith)
 
 pub reply_one : (print : List ℕ → Fp) (sizes : Sizes) (s : State) (command : Command) → AtMostOne (reply_line print sizes s command)
 reply_one print sizes s (read address) =
     let kind : Kind = (read_answer sizes s address).kind in
-    let one = one_kind kind in
-    tells_one (reply_line print sizes s (read address)) (slots_for kind) (looks_for kind) (writes_for kind) (read_tells kind (content s.array address) _ _) one.0 one.1 one.2
+    let block : List ℕ = content s.array address in
+    let one = one_kind kind block in
+    tells_one (reply_line print sizes s (read address)) (slots_for kind block) (looks_for kind) (writes_for kind) (read_tells kind block _ _) one.0 one.1 one.2
 reply_one print sizes s quit = tells_one (bye_text s.count) 0 0 0 (bye_tells s.count) (omega arith) (omega arith) (omega arith)
 reply_one print sizes s (bad kind) = tells_one (bad_text kind) 0 0 0 (bad_tells kind) (omega arith) (omega arith) (omega arith)
 

@@ -13,7 +13,7 @@ use Rattle.dd_rig.specs.Counts.{Rose, NeverFalls, plus}
 use Rattle.dd_model.specs.declared.kind.Kind.{Kind}
 use Rattle.dd_model.specs.declared.kind.Kind.TheVariants.{Hit, Join, Miss, Dup, New}
 use Rattle.dd_model.specs.State.{Sizes, State, content}
-use Rattle.dd_model.specs.Step.{read_answer}
+use Rattle.dd_model.specs.Reference.{read_answer}
 use Rattle.dd_script.specs.declared.line.BadKind.TheVariants as bad_is
 use Rattle.dd_script.specs.Command.{Command, read, quit, bad}
 use Rattle.dd_script.specs.Script.{through_quit, commands_of, script_lines}

@@ -10,18 +10,17 @@ use Rattle.dd_rig.specs.Counts.{Rose, NeverFalls, calls_of}
 use Rattle.dd_rig.specs.World.{World, say}
 use Rattle.dd_model.specs.declared.kind.Kind.{Kind}
 use Rattle.dd_model.specs.declared.done.Done.{Done}
-use Rattle.dd_model.specs.Step.{Tells}
-use Rattle.dd_model.specs.Step as step
+use Rattle.dd_model.specs.Reference.{Tells}
+use Rattle.dd_model.specs.Reference as step
 use Rattle.dd_record.specs.declared.row.BRow.{BRow}
 use Rattle.dd_script.specs.Output.{read_line}
 use Rattle.dd_model.specs.State.{Sizes, State}
 use Rattle.dd_script.specs.Command.{Command}
 use Rattle.dd_script.specs.Text.{read_text}
-use Rattle.dd_serve.specs.declared.scratch.Scratch.{Scratch}
 use Rattle.dd_serve.specs.declared.answering.Written.{Written}
 use Rattle.dd_serve.specs.Calls.{AsksForLine}
 use Rattle.dd_serve.specs.Saying.{IsIdle}
-use Rattle.dd_serve.specs.Scratch.{IsSound, scratch_state}
+use Rattle.dd_serve.specs.Scratch.{ScratchView, IsSound, scratch_state}
 use Rattle.dd_serve.specs.declared.halt.Halt.TheVariants.{Output}
 use Rattle.dd_serve.specs.Answering.{Replied, WritesAnswer, AnswersLine, CutsLine}
 
@@ -49,10 +48,10 @@ asks_idle sizes line a b c h k = (
 )
 
 -- what is said changes neither device
-pub sound_said : (print : List ℕ → Fp) (scratch : Scratch) (piece : List ℕ) (old new : World) → new ≡ say piece old → IsSound print scratch old → IsSound print scratch new
+pub sound_said : (print : List ℕ → Fp) (scratch : ScratchView) (piece : List ℕ) (old new : World) → new ≡ say piece old → IsSound print scratch old → IsSound print scratch new
 sound_said print scratch piece old new e h = let P : World → Type 0 = λ w. IsSound print scratch w in subst P (sym e) h
 
-pub state_said : (scratch : Scratch) (piece : List ℕ) (old new : World) → new ≡ say piece old → scratch_state scratch new ≡ scratch_state scratch old
+pub state_said : (scratch : ScratchView) (piece : List ℕ) (old new : World) → new ≡ say piece old → scratch_state scratch new ≡ scratch_state scratch old
 state_said scratch piece old new e = ap (scratch_state scratch) e
 
 module _ (print : List ℕ → Fp) (sizes : Sizes) where

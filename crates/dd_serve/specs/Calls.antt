@@ -1,27 +1,36 @@
 -- How often a replay asks its devices.
-use Rattle.std.specs.Prelude.{◌≤◌, ℕ, ◌+◌, ◌*◌, ◌||◌, Bool, List, [], ◌∷◌, take, codes, count_by, cond, nat_le}
+use Rattle.std.specs.Prelude.{◌≤◌, ℕ, ◌+◌, ◌*◌, ◌||◌, ◌&&◌, not, Bool, List, [], ◌∷◌, ◌++◌, take, codes, count_by, cond, nat_le}
 use Rattle.std.specs.Str.{bytes_eq}
 use Rattle.dd_rig.specs.declared.device.Dev.TheVariants as dev
 use Rattle.dd_rig.specs.declared.tallies.Counts.{Counts}
 use Rattle.dd_rig.specs.Counts.{Quota, Makes, plus, up_to}
-use Rattle.dd_model.specs.State.{Sizes}
+use Rattle.dd_model.specs.State.{Sizes, is_zero_block}
+use Rattle.dd_model.specs.declared.given.Block.{Block}
+use Rattle.dd_model.specs.declared.given.Block.TheVariants.{Known, Fresh, Zero}
 use Rattle.dd_model.specs.declared.kind.Kind.{Kind}
 use Rattle.dd_model.specs.declared.kind.Kind.TheVariants.{Hit, Join, Miss, Dup, New}
 use Rattle.dd_script.specs.Answers.{faults_in}
-use Rattle.dd_serve.specs.declared.scratch.ScratchFault.{ScratchFault}
-use Rattle.dd_serve.specs.declared.scratch.ScratchFault.TheVariants.{FlashRead, DiskRead, FlashWrite}
+use Rattle.dd_serve.specs.declared.blocks.ScratchFault.{ScratchFault}
+use Rattle.dd_serve.specs.declared.blocks.ScratchFault.TheVariants.{FlashRead, DiskRead, FlashWrite}
 
 -- the flash was read so many times or more, and no more calls were made than these
 abbrev pub Asks : (slots : ℕ) (flash disk : Quota) → Counts → Counts → Type 0
 Asks slots flash disk before after = (plus before.flash.reads slots ≤ after.flash.reads) × Makes flash disk before after
 
--- a hit reads a slot of the flash
-abbrev pub slots_for : Kind → ℕ
-slots_for Hit = 1
-slots_for Join = 0
-slots_for Miss = 0
-slots_for Dup = 0
-slots_for New = 0
+-- a hit of a block reads its slot, and a hit of zeros reads nothing
+abbrev pub slots_for : Kind → List ℕ → ℕ
+slots_for Hit block = cond (is_zero_block block) 0 1
+slots_for Join block = 0
+slots_for Miss block = 0
+slots_for Dup block = 0
+slots_for New block = 0
+
+-- the same by where the content was found
+abbrev pub slots_at : Kind → Block → ℕ
+slots_at Hit Zero = 0
+slots_at Hit (Known slot) = 1
+slots_at Hit (Fresh row) = 1
+slots_at kind given = 0
 
 -- a join and a miss read a block of the disk, and look for it in the slots
 abbrev pub looks_for : Kind → ℕ
@@ -39,7 +48,7 @@ writes_for Miss = 1
 writes_for Dup = 0
 writes_for New = 0
 
--- So many hits, looks and misses: a hit reads one slot, a look reads the disk once and each slot at most once, and a miss writes one
+-- So many hits of other blocks than zeros, looks and misses: such a hit reads one slot, a look reads the disk once and each slot at most once, and a miss writes one
 -- slot.
 abbrev pub AsksFor : (block bcap : ℕ) (hits looks misses : ℕ) → Counts → Counts → Type 0
 AsksFor block bcap hits looks misses before after = Asks hits (up_to (hits + bcap * looks) misses (block * misses)) (up_to looks 0 0) before after
@@ -50,8 +59,13 @@ writes_until FlashRead = 0
 writes_until DiskRead = 0
 writes_until FlashWrite = 1
 
+-- whether a line tells a hit of zeros: it begins with `hit 00`, and a space or its end stands behind
+abbrev pub is_zeros_hit : List ℕ → Bool
+is_zeros_hit line = bytes_eq (take 7 (line ++ codes " ")) (codes "hit 00 ")
+
+-- whether it tells a hit of another block
 abbrev pub is_hit : List ℕ → Bool
-is_hit line = bytes_eq (take 4 line) (codes "hit ")
+is_hit line = bytes_eq (take 4 line) (codes "hit ") && not (is_zeros_hit line)
 
 abbrev pub is_load : List ℕ → Bool
 is_load line = bytes_eq (take 5 line) (codes "join ") || bytes_eq (take 5 line) (codes "miss ")
@@ -59,7 +73,7 @@ is_load line = bytes_eq (take 5 line) (codes "join ") || bytes_eq (take 5 line) 
 abbrev pub is_miss : List ℕ → Bool
 is_miss line = bytes_eq (take 5 line) (codes "miss ")
 
--- how many of these lines are hits
+-- how many of these lines are hits whose text isn't 00
 abbrev pub hits_in : List (List ℕ) → ℕ
 hits_in lines = count_by is_hit lines
 

@@ -15,7 +15,9 @@ use Rattle.dd_script.specs.Text.{HasNoEnd, ended, stop_text}
 use Rattle.dd_script.specs.Output.{output}
 use Rattle.dd_script.specs.Answers.{Answers, AnswersAll, faults_in}
 use Rattle.dd_serve.specs.declared.words.Plan.{Plan}
-use Rattle.dd_serve.specs.declared.scratch.Scratch.{Scratch}
+use Rattle.dd_slots.specs.Slots.{AreNew}
+use Rattle.dd_model.specs.Listing.{empty_listing}
+use Rattle.dd_serve.specs.Scratch.{ScratchView}
 use Rattle.dd_serve.specs.Ending.{stopped_status}
 use Rattle.dd_serve.specs.Calls.{AsksForLines, loads_in, unfinished}
 
@@ -45,15 +47,12 @@ replay_output print plan disk world script = output print (plan_sizes plan disk)
 abbrev pub IsBounded : Plan → (disk : ℕ) → List ℕ → Type 0
 IsBounded plan disk script = EndsWithin 1099511627776 (blocks_of plan disk) script
 
--- the scratch of a replay at its start
-abbrev pub first_scratch : Plan → ℕ → Scratch
-first_scratch plan disk = record {
-  block = plan.block;
-  blocks = blocks_of plan disk;
-  lists = record { acap = plan.acap; bcap = plan.bcap; a = []; b = [] };
-  spare = 0;
-  count = 0;
-}
+-- the scratch of a replay at its start: nothing is listed, and each slot is free
+pub record IsFirst (plan : Plan) (disk : ℕ) (scratch : ScratchView) : Type 0 where
+  pub blocks : scratch.blocks ≡ blocks_of plan disk
+  pub lists : scratch.lists ≡ empty_listing plan.acap plan.bcap (plan.bcap + 1)
+  pub slots : AreNew 64 plan.block (plan.bcap + 1) [] scratch.slots
+  pub count : scratch.count ≡ 0
 
 -- what was said in between
 abbrev pub said_since : World → World → List ℕ

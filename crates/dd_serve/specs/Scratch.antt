@@ -1,78 +1,82 @@
--- What the rows and both devices stand for.
-use Rattle.std.specs.Prelude.{◌≡◌, ◌≢◌, ℕ, ◌+◌, ◌*◌, ◌<◌, ◌≤◌, ◌==◌, Bool, true, false, List, map, length, Option, Some, None, slice_range, slice_index, filter, nat_lt, ⊤}
-use Rattle.std.specs.List.{AllByRecursion, IsDistinct}
+-- What a scratch keeps, and what its rows and both devices stand for.
+use Rattle.std.specs.Prelude.{◌≡◌, ℕ, suc, ◌+◌, ◌*◌, ◌<◌, ◌≤◌, false, List, map, Option, slice_range, slice_index, filter, nat_lt, if◌then◌else◌}
+use Rattle.std.specs.List.{AllByRecursion}
 use Rattle.dd_block.specs.declared.print.Fp.{Fp}
 use Rattle.dd_rig.specs.declared.device.Dev.{Dev}
 use Rattle.dd_rig.specs.declared.device.Dev.TheVariants.{Flash, Disk}
 use Rattle.dd_rig.specs.Device.{IsImage, IsOutside}
 use Rattle.dd_rig.specs.World.{World, Outcome, shown}
-use Rattle.std.specs.Str.{bytes_eq}
-use Rattle.dd_model.specs.declared.kind.Kind.{Kind}
-use Rattle.dd_model.specs.declared.kind.Kind.TheVariants.{Miss}
-use Rattle.dd_model.specs.State.{Sizes, State, array_of, content}
-use Rattle.dd_model.specs.Rows.{entry_of}
-use Rattle.dd_model.specs.Step.{read_kind}
+use Rattle.dd_slots.specs.declared.usage.Usage.TheVariants.{Used}
+use Rattle.dd_slots.specs.Slots.{SlotsView, block_in, use_of, with_use, is_used, is_waiting, settled, count_of, slots_end}
 use Rattle.dd_record.specs.declared.row.BRow.{BRow}
-use Rattle.dd_serve.specs.declared.scratch.Scratch.{Scratch}
-use Rattle.dd_serve.specs.Saying.{front_of}
-use Rattle.dd_record.specs.declared.row.Link.{Link}
-use Rattle.dd_record.specs.declared.row.Link.TheVariants.{Lost, Slot, Zero}
 use Rattle.dd_record.specs.Table.{has_slot}
-use Rattle.dd_serve.specs.Rows.{Listed, touched, cut_block}
+use Rattle.dd_record.specs.Replay.{Touch}
+use Rattle.dd_model.specs.declared.kind.Kind.{Kind}
+use Rattle.dd_model.specs.declared.kind.Kind.TheVariants.{Join, Miss}
+use Rattle.dd_model.specs.declared.given.Block.{Block}
+use Rattle.dd_model.specs.declared.given.Block.TheVariants.{Known, Fresh, Zero}
+use Rattle.dd_model.specs.State.{Sizes, State, IsState, array_of, content, is_known}
+use Rattle.dd_model.specs.Reference.{read_kind}
+use Rattle.dd_model.specs.Rows.{Shows, entry_of, held_block}
+use Rattle.dd_model.specs.Listing.{Listing, row_of, touch_by, referred, cut_of}
+use Rattle.dd_store.specs.Referring.{IsThere, IsPlaced, slots_let_go}
+use Rattle.dd_serve.specs.Saying.{front_of}
 
-abbrev pub scratch_at : ℕ → ℕ → ℕ
-scratch_at block slot = 64 + slot * block
+-- both lists, the slots of the flash, and how many references were made; the disk has so many blocks
+pub record ScratchView : Type 0 where
+  pub blocks : ℕ
+  pub lists : Listing
+  pub slots : SlotsView
+  pub count : ℕ
+
+abbrev pub scratch_of : (blocks : ℕ) → Listing → SlotsView → (count : ℕ) → ScratchView
+scratch_of blocks lists slots count = record { blocks = blocks; lists = lists; slots = slots; count = count }
+
+abbrev pub scratch_sizes : ScratchView → Sizes
+scratch_sizes scratch = record { block = scratch.slots.block; blocks = scratch.blocks; acap = scratch.lists.acap; bcap = scratch.lists.bcap }
 
 -- the block in a slot, as the flash reads
-abbrev pub scratch_block : ℕ → World → ℕ → List ℕ
-scratch_block block world slot = slice_range (shown Flash world) (scratch_at block slot) (scratch_at block slot + block)
+abbrev pub held_in : SlotsView → World → ℕ → List ℕ
+held_in slots world slot = block_in slots (shown Flash world) slot
 
 -- the block at an address of the disk
 abbrev pub block_of : ℕ → World → ℕ → List ℕ
 block_of block world address = slice_range (shown Disk world) (address * block) (address * block + block)
 
-abbrev pub scratch_sizes : Scratch → Sizes
-scratch_sizes scratch = record { block = scratch.block; blocks = scratch.blocks; acap = scratch.lists.acap; bcap = scratch.lists.bcap }
-
 -- the state for which rows and devices stand
-abbrev pub scratch_state : Scratch → World → State
+abbrev pub scratch_state : ScratchView → World → State
 scratch_state scratch world = record {
-  array = array_of scratch.block scratch.blocks (shown Disk world);
-  addresses = map entry_of scratch.lists.a;
-  blocks = map (λ row. scratch_block scratch.block world row.slot) scratch.lists.b;
+  array = array_of scratch.slots.block scratch.blocks (shown Disk world);
+  addresses = map entry_of scratch.lists.table.a;
+  blocks = map (held_block (held_in scratch.slots world)) scratch.lists.table.b;
   count = scratch.count;
 }
 
--- a link leads to a listed slot, which has the content of the address; zeros are a block like any other
-abbrev pub LinkHolds : (List ℕ → Fp) → (ℕ → List ℕ) → List (List ℕ) → List BRow → ℕ → Fp → Link → Type 0
-LinkHolds printed in_slot array b address fp Lost = ⊤
-LinkHolds printed in_slot array b address fp Zero = ⊥
-LinkHolds printed in_slot array b address fp (Slot slot) = (has_slot slot b ≡ true) × (in_slot slot ≡ content array address) × (fp ≡ printed (in_slot slot))
-
--- rows and the blocks in their slots
-pub record Sound (printed : List ℕ → Fp) (in_slot : ℕ → List ℕ) (array : List (List ℕ)) (lists : Listed) (spare : ℕ) : Type 0 where
-  -- each block stands in one slot
-  pub apart : (s t : ℕ) → has_slot s lists.b ≡ true → has_slot t lists.b ≡ true → in_slot s ≡ in_slot t → s ≡ t
-  pub slots : IsDistinct (λ x y. x.slot == y.slot) lists.b
-  pub prints : AllByRecursion (λ row. row.fp ≡ printed (in_slot row.slot)) lists.b
-  pub links : AllByRecursion (λ row. LinkHolds printed in_slot array lists.b row.address row.fp row.link) lists.a
-  pub short : length lists.b ≤ lists.bcap
-  -- the spare slot is free
-  pub free : has_slot spare lists.b ≡ false
-  -- as long as none fell off, the slots are used in their order
-  pub in_order : length lists.b < lists.bcap → (spare ≡ length lists.b) × AllByRecursion (λ row. row.slot < length lists.b) lists.b
-
-abbrev pub IsSound : (List ℕ → Fp) → Scratch → World → Type 0
+-- that state keeps its rules, and the rows show it
+abbrev pub IsSound : (List ℕ → Fp) → ScratchView → World → Type 0
 IsSound printed scratch world =
-    Sound printed (scratch_block scratch.block world) (array_of scratch.block scratch.blocks (shown Disk world)) scratch.lists scratch.spare
+    Shows printed (held_in scratch.slots world) scratch.lists.table scratch.count (scratch_state scratch world) × IsState (scratch_sizes scratch) (scratch_state scratch world)
 
--- the numbers of a scratch, over devices of these sizes
-pub record Fits (scratch : Scratch) (size : Dev → ℕ) : Type 0 where
-  pub block : 0 < scratch.block
-  pub block_most : scratch.block ≤ 4096
-  pub flash : 64 + (scratch.lists.bcap + 1) * scratch.block ≤ size Flash
-  pub disk : scratch.blocks * scratch.block ≤ size Disk
-  pub spare : scratch.spare ≤ scratch.lists.bcap
+-- the slots of a scratch over lists: there is one more than listed blocks at most, those of listed blocks are used, and the others free
+pub record FitsSlots (lists : Listing) (slots : SlotsView) : Type 0 where
+  pub lists_slots : lists.slots ≡ lists.bcap + 1
+  pub count : count_of slots ≡ lists.bcap + 1
+  pub used : (slot : ℕ) → is_used (use_of slots slot) ≡ has_slot slot lists.table.b
+  pub none_waits : (slot : ℕ) → is_waiting (use_of slots slot) ≡ false
+
+-- the slots begin behind the first 64 bytes, and lie on the flash
+pub record FitsFlash (slots : SlotsView) (size : Dev → ℕ) : Type 0 where
+  pub behind : 64 ≤ slots.base
+  pub flash : slots_end slots ≤ size Flash
+
+-- a scratch over devices of these sizes: no address is dirty
+pub record Fits (scratch : ScratchView) (size : Dev → ℕ) : Type 0 where
+  pub block : 0 < scratch.slots.block
+  pub block_most : scratch.slots.block ≤ 4096
+  pub flash : FitsFlash scratch.slots size
+  pub disk : scratch.blocks * scratch.slots.block ≤ size Disk
+  pub slots : FitsSlots scratch.lists scratch.slots
+  pub clean : AllByRecursion (λ row. row.dirty ≡ false) scratch.lists.table.a
 
 -- the ranges that were written in the first 64 bytes of the flash
 abbrev pub front_ranges : World → List (ℕ × ℕ)
@@ -99,45 +103,42 @@ pub record KeepsDevices (first : World) (o : Outcome) : Type 0 where
 abbrev pub IsWithin : World → Outcome → Type 0
 IsWithin world o = (o.out ≡ world.said) × KeepsDevices world o
 
--- a new block goes to the spare slot, another is listed
-abbrev pub PlaceOf : Kind → ℕ → ℕ → List BRow → Type 0
-PlaceOf Miss slot spare b = slot ≡ spare
-PlaceOf kind slot spare b = has_slot slot b ≡ true
+-- the slot of a fresh block is used from now on
+abbrev pub placed : Block → SlotsView → SlotsView
+placed (Known slot) slots = slots
+placed (Fresh row) slots = with_use row.slot Used slots
+placed Zero slots = slots
 
--- the content of an address was found, and the slot in which it stands
-pub record Located (printed : List ℕ → Fp) (scratch : Scratch) (before after : World) (address : ℕ) (block : List ℕ) (kind : Kind) (row : BRow) : Type 0 where
-  pub kind_is : kind ≡ read_kind (scratch_state scratch before) address
-  pub block_is : block ≡ content (scratch_state scratch before).array address
-  pub in_slot : scratch_block scratch.block after row.slot ≡ block
-  pub print_is : row.fp ≡ printed block
-  pub agrees : (s : ℕ) → has_slot s scratch.lists.b ≡ true → (s == row.slot) ≡ bytes_eq (scratch_block scratch.block after s) block
+-- a block that isn't zeros was found: it is listed, or it lies in a fresh slot
+pub record Found (printed : List ℕ → Fp) (scratch : ScratchView) (before after : World) (block : List ℕ) (kind : Kind) (given : Block) : Type 0 where
+  pub kind_is : kind ≡ (if is_known block (scratch_state scratch before).blocks then Join else Miss)
   pub state : scratch_state scratch after ≡ scratch_state scratch before
   pub sound : IsSound printed scratch after
-  pub place : PlaceOf kind row.slot scratch.spare scratch.lists.b
+  pub there : IsThere printed (held_in scratch.slots after) (row_of given scratch.lists.table.b) block
+  pub in_place : IsPlaced (scratch_state scratch before) scratch.lists.table (row_of given scratch.lists.table.b) block
 
--- the spare slot becomes the one whose block fell off, or the next one
-abbrev pub next_spare : Kind → Option BRow → ℕ → ℕ → ℕ
-next_spare kind (Some dropped) size spare = dropped.slot
-next_spare Miss None size spare = size
-next_spare kind None size spare = spare
+-- the content of an address was found: it is listed, it lies in a fresh slot, or it is zeros
+pub record Located (printed : List ℕ → Fp) (scratch : ScratchView) (before after : World) (address : ℕ) (block : List ℕ) (kind : Kind) (given : Block) : Type 0 where
+  pub kind_is : kind ≡ read_kind (scratch_state scratch before) address
+  pub block_is : block ≡ content (scratch_state scratch before).array address
+  pub state : scratch_state scratch after ≡ scratch_state scratch before
+  pub sound : IsSound printed scratch after
+  pub there : IsThere printed (held_in scratch.slots after) (row_of given scratch.lists.table.b) block
+  pub in_place : IsPlaced (scratch_state scratch before) scratch.lists.table (row_of given scratch.lists.table.b) block
 
--- the scratch after a reference
-abbrev pub after_touch : ℕ → BRow → Kind → Scratch → Scratch
-after_touch address row kind scratch = record scratch {
-  lists = touched address row scratch.lists;
-  spare = next_spare kind (cut_block row scratch.lists) (length (touched address row scratch.lists).b) scratch.spare;
-  count = scratch.count + 1;
+-- an address is read with a block
+abbrev pub read_of : ℕ → Block → Listing → Touch
+read_of address given lists = touch_by address given false lists
+
+-- the slot of a block that fell off is free
+abbrev pub slots_after : Option BRow → SlotsView → SlotsView
+slots_after drop slots = settled (slots_let_go drop slots)
+
+-- the scratch behind a read
+abbrev pub after_read : ℕ → Block → ScratchView → ScratchView
+after_read address given scratch = record {
+  blocks = scratch.blocks;
+  lists = referred (read_of address given scratch.lists) scratch.lists;
+  slots = slots_after (cut_of (read_of address given scratch.lists) scratch.lists).drop (placed given scratch.slots);
+  count = suc scratch.count;
 }
-
-abbrev pub IsAmong : ℕ → List BRow → Type 0
-IsAmong most rows = AllByRecursion (λ row. row.slot ≤ most) rows
-
--- whether a row has this fingerprint and these bytes
-abbrev pub IsThis : Bool → BRow → Fp → List ℕ → World → Type 0
-IsThis true row fp block world = (row.fp ≡ fp) × (scratch_block (length block) world row.slot ≡ block)
-IsThis false row fp block world = row.fp ≡ fp → scratch_block (length block) world row.slot ≢ block
-
--- a listed row with this fingerprint and these bytes, or none has both
-abbrev pub Confirms : Option BRow → Fp → List ℕ → ℕ → World → List BRow → Type 0
-Confirms (Some row) fp block size world rows = (row.fp ≡ fp) × (scratch_block size world row.slot ≡ block) × (has_slot row.slot rows ≡ true)
-Confirms None fp block size world rows = AllByRecursion (λ row. row.fp ≡ fp → scratch_block size world row.slot ≢ block) rows

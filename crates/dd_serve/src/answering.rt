@@ -16,9 +16,11 @@ ghost use Rattle.dd_script.specs.Text.{reply_room};
 ghost use Rattle.dd_serve.specs.Saying.{IsIdle};
 ghost use Rattle.dd_serve.specs.Answering.{AnswersLine, WritesAnswer, WritesLine, HaltsByFlash, CutsLine, AnsweredAll, AnsweredUpTo};
 
+use crate::blocks::ScratchFault;
 use crate::halt::Halt;
-use crate::scratch::{Scratch, ScratchFault};
+use crate::scratch::Scratch;
 use dd_block::Fingerprint;
+use dd_model::Lists;
 use dd_rig::{Dev, Rig, Source};
 use dd_script::{Line, Reader, Reply, ScriptFault, Stop, reply_read, write_reply};
 
@@ -32,8 +34,8 @@ pub struct Written {
 /// Replays a script up to its end, or to its first q. Answers whether a read failed, and its command
 /// was answered so.
 #[tactic(auto, using(crate::proofs::Causes::cause_steps, crate::proofs::Moments::moment_steps))]
-pub fn serve<F: Fingerprint, R: Rig, S: Source>(
-    scratch: &mut Scratch,
+pub fn serve<L: Lists, F: Fingerprint, R: Rig, S: Source>(
+    scratch: &mut Scratch<L>,
     reader: &mut Reader,
     source: &mut S,
     rig: &mut R,
@@ -43,7 +45,7 @@ pub fn serve<F: Fingerprint, R: Rig, S: Source>(
     text: &mut [u8],
 ) -> Result<bool, Halt>
     requires text { length text.old ≡ reply_room }
-    requires size { (length block.old ≡ scratch.old.block) × (length other.old ≡ scratch.old.block) }
+    requires size { (length block.old ≡ scratch.old.slots.block) × (length other.old ≡ scratch.old.slots.block) }
     requires some { 0 < scratch.old.blocks }
     requires count { scratch.old.count + fuel reader.old + 1 < 2 ^ 64 }
     requires fits { Fits scratch.old (R.device_size rig.old) }
@@ -63,7 +65,7 @@ pub fn serve<F: Fingerprint, R: Rig, S: Source>(
 {
     let mut faulted = false;
     'lines: loop {
-        let said = match reader.next(source, scratch.blocks) {
+        let said = match reader.next(source, scratch.blocks()) {
             Ok(said) => said,
             Err(fault) => return Err(Halt::Stopped(stop_of(fault))),
         };
@@ -93,8 +95,8 @@ fn stop_of(fault: ScriptFault) -> Stop
 
 // Answers one line. True: a read failed, and the answer says so.
 #[tactic(auto, using(crate::proofs::Causes::cause_steps, crate::proofs::Moments::moment_steps))]
-fn answer_line<F: Fingerprint, R: Rig>(
-    scratch: &mut Scratch,
+fn answer_line<L: Lists, F: Fingerprint, R: Rig>(
+    scratch: &mut Scratch<L>,
     rig: &mut R,
     print: &F,
     said: Line,
@@ -104,7 +106,7 @@ fn answer_line<F: Fingerprint, R: Rig>(
 ) -> Result<bool, Halt>
     requires below { IsBelow scratch.old.blocks said }
     requires text { length text.old ≡ reply_room }
-    requires size { (length block.old ≡ scratch.old.block) × (length other.old ≡ scratch.old.block) }
+    requires size { (length block.old ≡ scratch.old.slots.block) × (length other.old ≡ scratch.old.slots.block) }
     requires count { scratch.old.count + 1 < 2 ^ 64 }
     requires fits { Fits scratch.old (R.device_size rig.old) }
     requires sound { R.tells → IsSound (F.printed print.now) scratch.old (R.world rig.old) }
@@ -131,8 +133,8 @@ fn answer_line<F: Fingerprint, R: Rig>(
 
 // Writes the answer to one line, where it has one.
 #[tactic(auto, using(crate::proofs::Causes::cause_steps, crate::proofs::Moments::moment_steps))]
-fn write_answer<F: Fingerprint, R: Rig>(
-    scratch: &mut Scratch,
+fn write_answer<L: Lists, F: Fingerprint, R: Rig>(
+    scratch: &mut Scratch<L>,
     rig: &mut R,
     print: &F,
     said: Line,
@@ -142,7 +144,7 @@ fn write_answer<F: Fingerprint, R: Rig>(
 ) -> Result<Option<Written>, Halt>
     requires below { IsBelow scratch.old.blocks said }
     requires text { length text.old ≡ reply_room }
-    requires size { (length block.old ≡ scratch.old.block) × (length other.old ≡ scratch.old.block) }
+    requires size { (length block.old ≡ scratch.old.slots.block) × (length other.old ≡ scratch.old.slots.block) }
     requires count { scratch.old.count + 1 < 2 ^ 64 }
     requires fits { Fits scratch.old (R.device_size rig.old) }
     requires sound { R.tells → IsSound (F.printed print.now) scratch.old (R.world rig.old) }
@@ -152,7 +154,7 @@ fn write_answer<F: Fingerprint, R: Rig>(
     ensures fits { OnOk result (Fits scratch.new (R.device_size rig.new)) }
     ensures sizes { OnOk result ((scratch_sizes scratch.new ≡ scratch_sizes scratch.old) × (scratch.new.count ≤ scratch.old.count + 1)) }
     ensures others { R.tells → OnlyFlash (R.world rig.old) (R.world rig.new) }
-    ensures begun { IfErr result (λ halt. AsksFor scratch.old.block scratch.old.lists.bcap 0 1 1 (R.counts rig.old) (R.counts rig.new)) }
+    ensures begun { IfErr result (λ halt. AsksFor scratch.old.slots.block scratch.old.lists.bcap 0 1 1 (R.counts rig.old) (R.counts rig.new)) }
     ensures time { R.tells → Elapses (R.clock rig.old) (R.clock rig.new) (IsWithin (R.world rig.old)) }
     ensures untouched { (R.counts rig.new).disk.writes ≡ (R.counts rig.old).disk.writes }
     ensures frame { Frame (R.counts rig.old) (R.counts rig.new) (R.device_size rig.old) (R.device_size rig.new) }
@@ -164,7 +166,7 @@ fn write_answer<F: Fingerprint, R: Rig>(
             scratch, rig, print, address, block, other, text,
         )?)),
         Line::Quit => Ok(Some(Written {
-            size: write_reply(Reply::Bye(scratch.count), text),
+            size: write_reply(Reply::Bye(scratch.count()), text),
             faulted: false,
         })),
         Line::Bad(kind) => Ok(Some(Written {
@@ -176,8 +178,8 @@ fn write_answer<F: Fingerprint, R: Rig>(
 
 // Writes the answer to a read.
 #[tactic(auto, using(crate::proofs::Causes::cause_steps, crate::proofs::Moments::moment_steps))]
-fn write_read<F: Fingerprint, R: Rig>(
-    scratch: &mut Scratch,
+fn write_read<L: Lists, F: Fingerprint, R: Rig>(
+    scratch: &mut Scratch<L>,
     rig: &mut R,
     print: &F,
     address: u32,
@@ -187,7 +189,7 @@ fn write_read<F: Fingerprint, R: Rig>(
 ) -> Result<Written, Halt>
     requires below { address < scratch.old.blocks }
     requires text { length text.old ≡ reply_room }
-    requires size { (length block.old ≡ scratch.old.block) × (length other.old ≡ scratch.old.block) }
+    requires size { (length block.old ≡ scratch.old.slots.block) × (length other.old ≡ scratch.old.slots.block) }
     requires count { scratch.old.count + 1 < 2 ^ 64 }
     requires fits { Fits scratch.old (R.device_size rig.old) }
     requires sound { R.tells → IsSound (F.printed print.now) scratch.old (R.world rig.old) }
@@ -197,7 +199,7 @@ fn write_read<F: Fingerprint, R: Rig>(
     ensures fits { OnOk result (Fits scratch.new (R.device_size rig.new)) }
     ensures sizes { OnOk result ((scratch_sizes scratch.new ≡ scratch_sizes scratch.old) × (scratch.new.count ≤ scratch.old.count + 1)) }
     ensures others { R.tells → OnlyFlash (R.world rig.old) (R.world rig.new) }
-    ensures begun { IfErr result (λ halt. AsksFor scratch.old.block scratch.old.lists.bcap 0 1 1 (R.counts rig.old) (R.counts rig.new)) }
+    ensures begun { IfErr result (λ halt. AsksFor scratch.old.slots.block scratch.old.lists.bcap 0 1 1 (R.counts rig.old) (R.counts rig.new)) }
     ensures time { R.tells → Elapses (R.clock rig.old) (R.clock rig.new) (IsWithin (R.world rig.old)) }
     ensures untouched { (R.counts rig.new).disk.writes ≡ (R.counts rig.old).disk.writes }
     ensures frame { Frame (R.counts rig.old) (R.counts rig.new) (R.device_size rig.old) (R.device_size rig.new) }

@@ -15,7 +15,7 @@ ghost use Rattle.dd_serve.specs.Scratch.{Scratched, KeepsDevices};
 ghost use Rattle.dd_serve.specs.Saying.{IsIdle, SaysAlone};
 ghost use Rattle.dd_serve.specs.Refusing.{Refuses, StopsAtDevice, small_for, refusal_for};
 ghost use Rattle.dd_serve.specs.Answering.{AnsweredAll, AnsweredUpTo};
-ghost use Rattle.dd_serve.specs.Replays.{Replays, IsBounded, first_scratch, blocks_of, plan_sizes, replay_start, replay_commands};
+ghost use Rattle.dd_serve.specs.Replays.{Replays, IsBounded, IsFirst, blocks_of, plan_sizes, replay_start, replay_commands};
 
 use crate::answering::serve;
 use crate::ending::{Ending, finish};
@@ -23,6 +23,7 @@ use crate::halt::Halt;
 use crate::scratch::Scratch;
 use crate::words::Plan;
 use dd_block::Fingerprint;
+use dd_model::{Lists, PlainLists};
 use dd_rig::{Dev, Failed, Rig, Source};
 use dd_script::{REPLY_ROOM, Reader, Refusal, Stop};
 use std::alloc::{AllocError, Global};
@@ -102,7 +103,7 @@ fn serve_plan<F: Fingerprint, R: Rig, S: Source>(
     ensures idle { result ≡ 4 → IsIdle (R.counts rig.old) (R.counts rig.new) }
     ensures later { NeverFalls (R.counts rig.old) (R.counts rig.new) }
 {
-    let Ok(served) = serve_script(alloc, plan, source, rig, print) else {
+    let Ok(served) = serve_script::<PlainLists, F, R, S>(alloc, plan, source, rig, print) else {
         return finish(rig, Ending::Stopped(Stop::Memory));
     };
     match served {
@@ -115,9 +116,9 @@ fn serve_plan<F: Fingerprint, R: Rig, S: Source>(
 }
 
 // The scratch at the start: nothing is listed.
-fn start<R: Rig>(alloc: Global, plan: Plan, rig: &R) -> Result<Scratch, AllocError>
+fn start<L: Lists, R: Rig>(alloc: Global, plan: Plan, rig: &R) -> Result<Scratch<L>, AllocError>
     requires { IsPlan plan }
-    ensures { IfOk result (λ scratch. scratch ≡ first_scratch plan (R.device_size rig.now DiskDevice)) }
+    ensures { IfOk result (IsFirst plan (R.device_size rig.now DiskDevice)) }
 {
     let count = rig.size(Dev::Disk) / u64::from(plan.block);
     let blocks = if count < MOST_BLOCKS {
@@ -129,7 +130,7 @@ fn start<R: Rig>(alloc: Global, plan: Plan, rig: &R) -> Result<Scratch, AllocErr
 }
 
 // Replays the script, or finds no memory for it.
-fn serve_script<F: Fingerprint, R: Rig, S: Source>(
+fn serve_script<L: Lists, F: Fingerprint, R: Rig, S: Source>(
     alloc: Global,
     plan: Plan,
     source: &mut S,
@@ -155,7 +156,7 @@ fn serve_script<F: Fingerprint, R: Rig, S: Source>(
         (R.counts rig.old) (R.counts rig.new))) }
 {
     let size = plan.block as usize;
-    let mut scratch = start(alloc, plan, rig)?;
+    let mut scratch = start::<L, R>(alloc, plan, rig)?;
     let mut reader = Reader::new(alloc)?;
     let mut block = vec![in alloc; 0; size]?;
     let mut other = vec![in alloc; 0; size]?;

@@ -52,5 +52,7 @@ loop-row-preserved g c =
       calls = reads_more (candidates c.args.fp (take c.loop-row.row-index c.args.rows.now)) (if bytes_eq row.fp.0 c.args.fp.0 then 1 else 0) (candidates c.args.fp (take (c.loop-row.row-index + 1) c.args.rows.now))
           (g.R.Rig.counts c.args.rig.now) (g.R.Rig.counts c.loop-row.rig) (g.R.Rig.counts c.is_this.new.rig) i.calls c.in_ok-is_this.ensures.calls
           (count_next (λ (r : BRow). bytes_eq r.fp.0 c.args.fp.0) c.args.rows.now c.loop-row.row-index no_row here);
+      reads = omega (arith, i.reads, c.in_ok-is_this.ensures.reads);
+      disk = c.in_ok-is_this.ensures.disk ∙ i.disk;
       frame = frame_trans (g.R.Rig.counts c.args.rig.now) (g.R.Rig.counts c.loop-row.rig) (g.R.Rig.counts c.is_this.new.rig) (g.R.Rig.device_size c.args.rig.now) (g.R.Rig.device_size c.loop-row.rig) (g.R.Rig.device_size c.is_this.new.rig) i.frame c.in_ok-is_this.ensures.frame;
     }

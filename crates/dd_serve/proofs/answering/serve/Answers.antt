@@ -35,7 +35,7 @@ returns-then-is_quit-clause-taken g c = λ u.
     let now : List ℕ = left c.lines.reader (rest c.lines.source) in
     let next : List ℕ = left c.next.new.self (rest c.next.new.source) in
     taken_to blocks c.in-Ok.said (left c.args.reader.now (rest c.args.source.now)) now (rest c.next.new.source) c.next.new.self (c.lines.invariant.passes u)
-    (same_passes c.lines.scratch.blocks blocks c.in-Ok.said now next (ap (λ (z : Sizes). z.blocks) c.lines.invariant.sizes) (c.in-Ok.ensures.passes u)) c.in-Ok.ensures.piece
+    (same_passes c.blocks-in-lines.result blocks c.in-Ok.said now next (c.blocks-in-lines.ensures ∙ ap (λ (z : Sizes). z.blocks) c.lines.invariant.sizes) (c.in-Ok.ensures.passes u)) c.in-Ok.ensures.piece
 
 pub returns-in-Err-clause-some : goal.returns-in-Err-clause-some
 returns-in-Err-clause-some g c = λ t u.
@@ -63,7 +63,7 @@ returns-in_err-failed-clause-some g c = λ t u.
     let now : List Command = commands_of blocks (left c.lines.reader (rest c.lines.source)) in
     let next : List Command = commands_of blocks (left c.next.new.self (rest c.next.new.source)) in
     let o = told c.in-Ok.said in
-    let front : now ≡ fronted o next = same_blocks c.lines.scratch.blocks blocks o (left c.lines.reader (rest c.lines.source)) (left c.next.new.self (rest c.next.new.source)) (ap (λ (z : Sizes). z.blocks) c.lines.invariant.sizes) (c.in-Ok.ensures.command u) in
+    let front : now ≡ fronted o next = same_blocks c.blocks-in-lines.result blocks o (left c.lines.reader (rest c.lines.source)) (left c.next.new.self (rest c.next.new.source)) (c.blocks-in-lines.ensures ∙ ap (λ (z : Sizes). z.blocks) c.lines.invariant.sizes) (c.in-Ok.ensures.command u) in
     let state : State = scratch_state c.lines.scratch (world c.lines.rig) in
     let cut : CutsLine printed sizes c.in_err-failed.field-0.0 o state (world c.lines.rig).said (world c.answer_line.new.rig).said (counts c.lines.rig) (counts c.answer_line.new.rig) =
     subst (λ (z : Sizes). CutsLine printed z c.in_err-failed.field-0.0 o state (world c.lines.rig).said (world c.answer_line.new.rig).said (counts c.lines.rig) (counts c.answer_line.new.rig)) c.lines.invariant.sizes (c.in_err-failed.ensures.cut t) in
@@ -88,7 +88,7 @@ returns-then-is_quit-clause-all g c = λ t u.
     let now : List Command = commands_of blocks (left c.lines.reader (rest c.lines.source)) in
     let next : List Command = commands_of blocks (left c.next.new.self (rest c.next.new.source)) in
     let o = told c.in-Ok.said in
-    let front : now ≡ fronted o next = same_blocks c.lines.scratch.blocks blocks o (left c.lines.reader (rest c.lines.source)) (left c.next.new.self (rest c.next.new.source)) (ap (λ (z : Sizes). z.blocks) c.lines.invariant.sizes) (c.in-Ok.ensures.command u) in
+    let front : now ≡ fronted o next = same_blocks c.blocks-in-lines.result blocks o (left c.lines.reader (rest c.lines.source)) (left c.next.new.self (rest c.next.new.source)) (c.blocks-in-lines.ensures ∙ ap (λ (z : Sizes). z.blocks) c.lines.invariant.sizes) (c.in-Ok.ensures.command u) in
     let state : State = scratch_state c.lines.scratch (world c.lines.rig) in
     let after : State = scratch_state c.answer_line.new.scratch (world c.answer_line.new.rig) in
     let answer : AnswersLine printed sizes o c.in_ok-failed.failed state after (world c.lines.rig).said (world c.answer_line.new.rig).said (counts c.lines.rig) (counts c.answer_line.new.rig) =
@@ -116,17 +116,17 @@ lines-preserved g c =
     let commands : List Command = commands_of blocks text in
     let next : List Command = commands_of blocks text_next in
     let o = told c.in-Ok.said in
-    let same = ap (λ (z : Sizes). z.blocks) c.lines.invariant.sizes in
+    let same = c.blocks-in-lines.ensures ∙ ap (λ (z : Sizes). z.blocks) c.lines.invariant.sizes in
     let other : quits o ≡ false = sym c.is_quit.ensures ∙ c.if-is_quit.false in
     let state : State = scratch_state c.lines.scratch (world c.lines.rig) in
     let after : State = scratch_state c.answer_line.new.scratch (world c.answer_line.new.rig) in
     let faulted : Bool = c.lines.faulted || c.in_ok-failed.failed in
     let i = c.lines.invariant in
-    let bound = λ (u : g.S.Source.tells). same_bound c.lines.scratch.blocks blocks (fuel c.lines.reader) (fuel c.next.new.self) text_now text_next same (bounds_other c.in-Ok.said _ _ other (c.in-Ok.ensures.bounds u)) in
+    let bound = λ (u : g.S.Source.tells). same_bound c.blocks-in-lines.result blocks (fuel c.lines.reader) (fuel c.next.new.self) text_now text_next same (bounds_other c.in-Ok.said _ _ other (c.in-Ok.ensures.bounds u)) in
     let burns = burns_other c.in-Ok.said _ _ other c.in-Ok.ensures.fuel in
     record {
       told = λ t u.
-          let front : commands_of blocks text_now ≡ fronted o next = same_blocks c.lines.scratch.blocks blocks o text_now text_next same (c.in-Ok.ensures.command u) in
+          let front : commands_of blocks text_now ≡ fronted o next = same_blocks c.blocks-in-lines.result blocks o text_now text_next same (c.in-Ok.ensures.command u) in
           let answer : AnswersLine printed sizes o c.in_ok-failed.failed state after (world c.lines.rig).said (world c.answer_line.new.rig).said (counts c.lines.rig) (counts c.answer_line.new.rig) =
           subst (λ (z : Sizes). AnswersLine printed z o c.in_ok-failed.failed state after (world c.lines.rig).said (world c.answer_line.new.rig).said (counts c.lines.rig) (counts c.answer_line.new.rig)) i.sizes (c.in_ok-failed.ensures.answer t) in
           let going = going_line printed sizes start commands (world c.args.rig.now).said (counts c.args.rig.now) o c.in_ok-failed.failed c.lines.faulted (world c.lines.rig).said (world c.answer_line.new.rig).said state after
@@ -141,7 +141,7 @@ lines-preserved g c =
       count = omega (arith, burns, i.count, c.in_ok-failed.ensures.sizes.1);
       bounded = λ u within. i.bounded u ((bound u).1 within);
       bounds = λ u within. (bound u).0 (i.bounds u within);
-      passes = λ u. goes_on blocks c.in-Ok.said text text_now text_next (i.passes u) (same_passes c.lines.scratch.blocks blocks c.in-Ok.said text_now text_next same (c.in-Ok.ensures.passes u)) other;
+      passes = λ u. goes_on blocks c.in-Ok.said text text_now text_next (i.passes u) (same_passes c.blocks-in-lines.result blocks c.in-Ok.said text_now text_next same (c.in-Ok.ensures.passes u)) other;
       untouched = c.answer_line.ensures.untouched ∙ i.untouched;
       later = falls_trans _ _ _ i.later c.answer_line.ensures.frame.0;
       later_source = omega (arith, i.later_source, c.next.ensures.later);
