@@ -1,5 +1,5 @@
 -- What a scratch keeps, and what its rows and both devices stand for.
-use Rattle.std.specs.Prelude.{◌≡◌, ℕ, suc, ◌+◌, ◌*◌, ◌<◌, ◌≤◌, false, List, map, Option, slice_range, slice_index, filter, nat_lt, if◌then◌else◌}
+use Rattle.std.specs.Prelude.{◌≡◌, ℕ, ◌+◌, ◌*◌, ◌<◌, ◌≤◌, false, List, map, Option, slice_range, slice_index, filter, nat_lt, if◌then◌else◌}
 use Rattle.std.specs.List.{AllByRecursion}
 use Rattle.dd_block.specs.declared.print.Fp.{Fp}
 use Rattle.dd_rig.specs.declared.device.Dev.{Dev}
@@ -18,7 +18,7 @@ use Rattle.dd_model.specs.declared.given.Block.TheVariants.{Known, Fresh, Zero}
 use Rattle.dd_model.specs.State.{Sizes, State, IsState, array_of, content, is_known}
 use Rattle.dd_model.specs.Reference.{read_kind}
 use Rattle.dd_model.specs.Rows.{Shows, entry_of, held_block}
-use Rattle.dd_model.specs.Listing.{Listing, row_of, touch_by, referred, cut_of}
+use Rattle.dd_model.specs.Listing.{Listing, row_of, touch_by}
 use Rattle.dd_store.specs.Referring.{IsThere, IsPlaced, slots_let_go}
 use Rattle.dd_serve.specs.Saying.{front_of}
 
@@ -133,12 +133,3 @@ read_of address given lists = touch_by address given false lists
 -- the slot of a block that fell off is free
 abbrev pub slots_after : Option BRow → SlotsView → SlotsView
 slots_after drop slots = settled (slots_let_go drop slots)
-
--- the scratch behind a read
-abbrev pub after_read : ℕ → Block → ScratchView → ScratchView
-after_read address given scratch = record {
-  blocks = scratch.blocks;
-  lists = referred (read_of address given scratch.lists) scratch.lists;
-  slots = slots_after (cut_of (read_of address given scratch.lists) scratch.lists).drop (placed given scratch.slots);
-  count = suc scratch.count;
-}

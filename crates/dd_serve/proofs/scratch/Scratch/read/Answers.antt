@@ -10,9 +10,9 @@ use Rattle.dd_model.specs.Listing.{Listing, cut_of}
 use Rattle.dd_model.specs.State.{content}
 use Rattle.dd_model.specs.Reference.{Tells, reference, read_answer}
 use Rattle.dd_serve.specs.Calls.{AsksFor, slots_for, looks_for, writes_for}
-use Rattle.dd_serve.specs.Scratch.{ScratchView, Fits, FitsSlots, Located, IsSound, scratch_of, scratch_state, scratch_sizes, read_of, placed, slots_after, after_read}
+use Rattle.dd_serve.specs.Scratch.{ScratchView, Fits, FitsSlots, Located, IsSound, scratch_of, scratch_state, scratch_sizes, read_of, placed, slots_after}
 use Rattle.dd_serve.proofs.Clean.{AreClean, clean_may}
-use Rattle.dd_serve.proofs.Referenced.{read_state, read_sound, read_tells, read_slots, read_fits}
+use Rattle.dd_serve.proofs.Referenced.{after_read, read_state, read_sound, read_tells, read_slots, read_fits}
 use Rattle.dd_serve.proofs.SlotUses.{drop_used}
 use Rattle.dd_serve.proofs.scratch.Scratch.read.Goals as goal
 
