@@ -45,7 +45,7 @@ pub fn serve<L: Lists, F: Fingerprint, R: Rig, S: Source>(
     text: &mut [u8],
 ) -> Result<bool, Halt>
     requires text { length text.old ≡ reply_room }
-    requires size { (length block.old ≡ scratch.old.slots.block) × (length other.old ≡ scratch.old.slots.block) }
+    requires size { (length block.old ≡ (scratch_sizes scratch.old).block) × (length other.old ≡ (scratch_sizes scratch.old).block) }
     requires some { 0 < scratch.old.blocks }
     requires count { scratch.old.count + fuel reader.old + 1 < 2 ^ 64 }
     requires fits { Fits scratch.old (R.device_size rig.old) }
@@ -106,7 +106,7 @@ fn answer_line<L: Lists, F: Fingerprint, R: Rig>(
 ) -> Result<bool, Halt>
     requires below { IsBelow scratch.old.blocks said }
     requires text { length text.old ≡ reply_room }
-    requires size { (length block.old ≡ scratch.old.slots.block) × (length other.old ≡ scratch.old.slots.block) }
+    requires size { (length block.old ≡ (scratch_sizes scratch.old).block) × (length other.old ≡ (scratch_sizes scratch.old).block) }
     requires count { scratch.old.count + 1 < 2 ^ 64 }
     requires fits { Fits scratch.old (R.device_size rig.old) }
     requires sound { R.tells → IsSound (F.printed print.now) scratch.old (R.world rig.old) }
@@ -144,7 +144,7 @@ fn write_answer<L: Lists, F: Fingerprint, R: Rig>(
 ) -> Result<Option<Written>, Halt>
     requires below { IsBelow scratch.old.blocks said }
     requires text { length text.old ≡ reply_room }
-    requires size { (length block.old ≡ scratch.old.slots.block) × (length other.old ≡ scratch.old.slots.block) }
+    requires size { (length block.old ≡ (scratch_sizes scratch.old).block) × (length other.old ≡ (scratch_sizes scratch.old).block) }
     requires count { scratch.old.count + 1 < 2 ^ 64 }
     requires fits { Fits scratch.old (R.device_size rig.old) }
     requires sound { R.tells → IsSound (F.printed print.now) scratch.old (R.world rig.old) }
@@ -154,7 +154,7 @@ fn write_answer<L: Lists, F: Fingerprint, R: Rig>(
     ensures fits { OnOk result (Fits scratch.new (R.device_size rig.new)) }
     ensures sizes { OnOk result ((scratch_sizes scratch.new ≡ scratch_sizes scratch.old) × (scratch.new.count ≤ scratch.old.count + 1)) }
     ensures others { R.tells → OnlyFlash (R.world rig.old) (R.world rig.new) }
-    ensures begun { IfErr result (λ halt. AsksFor scratch.old.slots.block scratch.old.lists.bcap 0 1 1 (R.counts rig.old) (R.counts rig.new)) }
+    ensures begun { IfErr result (λ halt. AsksFor (scratch_sizes scratch.old).block (scratch_sizes scratch.old).bcap 0 1 1 (R.counts rig.old) (R.counts rig.new)) }
     ensures time { R.tells → Elapses (R.clock rig.old) (R.clock rig.new) (IsWithin (R.world rig.old)) }
     ensures untouched { (R.counts rig.new).disk.writes ≡ (R.counts rig.old).disk.writes }
     ensures frame { Frame (R.counts rig.old) (R.counts rig.new) (R.device_size rig.old) (R.device_size rig.new) }
@@ -189,7 +189,7 @@ fn write_read<L: Lists, F: Fingerprint, R: Rig>(
 ) -> Result<Written, Halt>
     requires below { address < scratch.old.blocks }
     requires text { length text.old ≡ reply_room }
-    requires size { (length block.old ≡ scratch.old.slots.block) × (length other.old ≡ scratch.old.slots.block) }
+    requires size { (length block.old ≡ (scratch_sizes scratch.old).block) × (length other.old ≡ (scratch_sizes scratch.old).block) }
     requires count { scratch.old.count + 1 < 2 ^ 64 }
     requires fits { Fits scratch.old (R.device_size rig.old) }
     requires sound { R.tells → IsSound (F.printed print.now) scratch.old (R.world rig.old) }
@@ -199,7 +199,7 @@ fn write_read<L: Lists, F: Fingerprint, R: Rig>(
     ensures fits { OnOk result (Fits scratch.new (R.device_size rig.new)) }
     ensures sizes { OnOk result ((scratch_sizes scratch.new ≡ scratch_sizes scratch.old) × (scratch.new.count ≤ scratch.old.count + 1)) }
     ensures others { R.tells → OnlyFlash (R.world rig.old) (R.world rig.new) }
-    ensures begun { IfErr result (λ halt. AsksFor scratch.old.slots.block scratch.old.lists.bcap 0 1 1 (R.counts rig.old) (R.counts rig.new)) }
+    ensures begun { IfErr result (λ halt. AsksFor (scratch_sizes scratch.old).block (scratch_sizes scratch.old).bcap 0 1 1 (R.counts rig.old) (R.counts rig.new)) }
     ensures time { R.tells → Elapses (R.clock rig.old) (R.clock rig.new) (IsWithin (R.world rig.old)) }
     ensures untouched { (R.counts rig.new).disk.writes ≡ (R.counts rig.old).disk.writes }
     ensures frame { Frame (R.counts rig.old) (R.counts rig.new) (R.device_size rig.old) (R.device_size rig.new) }
