@@ -22,7 +22,7 @@ use Rattle.dd_script.specs.Text.{HasNoEnd, ended, fault_text, read_text}
 use Rattle.dd_script.specs.Output.{reply_line}
 use Rattle.dd_script.specs.Answers.{MayFault, AnswersOne, Answered, faults_in}
 use Rattle.dd_script.proofs.Runs.{answered-snoc}
-use Rattle.dd_serve.proofs.Costs.{faults_snoc, AtMostOne, reply_one, fault_one, asks_more, asks_none, asks_part, asks_cut, asks_weaker}
+use Rattle.dd_serve.proofs.Costs.{faults_snoc, AtMostOne, reply_one, fault_one, asks_more, asks_none, asks_part, asks_cut, asks_weaker, asks_early}
 use Rattle.dd_script.specs.declared.reply.Stop.{Stop}
 use Rattle.dd_serve.specs.Calls.{AsksFor, AsksForLine, AsksForLines}
 use Rattle.dd_serve.specs.declared.halt.Halt.{Halt}
@@ -141,6 +141,19 @@ module _ (print : List ℕ → Fp) (sizes : Sizes) (start : State) (commands : L
     pub disk_faults : plus before.disk.failed_reads (faults_in dev.Disk lines) ≤ end.disk.failed_reads
     pub fault : HasFault faulted lines
     pub asks : AsksForLines sizes lines 0 before end
+
+  -- nothing was said yet
+  pub going_first : Going false said_before before start commands
+  going_first = record {
+    lines = [];
+    answered = (refl, refl);
+    whole = tt;
+    said = sym (append-nil said_before);
+    flash_faults = omega arith;
+    disk_faults = omega arith;
+    fault = (refl, refl);
+    asks = asks_early sizes before before (omega arith) (omega arith) (omega arith) (omega arith) (omega arith) (omega arith) (omega arith);
+  }
 
   -- the counts go on
   pub going_later : (faulted : Bool) (said_after : List ℕ) (a b : Counts) (state : State) (left : List Command) → NeverFalls a b → AsksFor sizes.block sizes.bcap 0 0 0 a b → Going faulted said_after a state left → Going faulted said_after b state left

@@ -81,7 +81,8 @@ impl<L: Lists> Scratch<L> {
         self.count
     }
 
-    /// Reads an address, which becomes the most recently referenced one, and so does its block.
+    /// Reads an address, which becomes the most recently referenced one, and so does its block; zeros
+    /// have no place among the blocks.
     pub fn read<F: Fingerprint, R: Rig>(
         &mut self,
         rig: &mut R,

@@ -1,4 +1,4 @@
-use Rattle.std.proofs.Common.{◌≡◌, ℕ, List, [], subst, sym, ◌∙◌, ap, arith, false, Bool}
+use Rattle.std.proofs.Common.{rules, ◌≡◌, ℕ, List, [], subst, sym, ◌∙◌, ap, arith, false, Bool}
 use Rattle.std.specs.Prelude.{Option, ◌||◌}
 use Rattle.dd_model.specs.State.{Sizes, State}
 use Rattle.dd_script.specs.Command.{Command}
@@ -15,7 +15,7 @@ use Rattle.dd_rig.proofs.Falling.{falls_trans}
 use Rattle.dd_serve.proofs.Moments.{scratched_both, line_moment}
 use Rattle.dd_script.proofs.Handing.{handed_on}
 use Rattle.dd_script.proofs.Commanding.{bounds_other, burns_other}
-use Rattle.dd_serve.proofs.Going.{Going, going_line, going_all, halts_between, halts_command, commands_some, after_front, front_quit, front_other}
+use Rattle.dd_serve.proofs.Going.{Going, going_first, going_line, going_all, halts_between, halts_command, commands_some, after_front, front_quit, front_other}
 use Rattle.dd_serve.proofs.answering.serve.Goals as goal
 
 same_blocks : (m n : ℕ) (o : Option Command) (before after : List ℕ) → m ≡ n → commands_of m before ≡ fronted o (commands_of m after) → commands_of n before ≡ fronted o (commands_of n after)
@@ -100,6 +100,24 @@ returns-then-is_quit-clause-all g c = λ t u.
     let faulted : Bool = c.lines.faulted || c.in_ok-failed.failed in
     going_all printed sizes start commands (world c.args.rig.now).said (counts c.args.rig.now) faulted (world c.answer_line.new.rig).said (counts c.answer_line.new.rig) after
     (subst (λ (l : List Command). Going printed sizes start commands (world c.args.rig.now).said (counts c.args.rig.now) faulted (world c.answer_line.new.rig).said (counts c.answer_line.new.rig) after l) none going)
+
+pub lines-init : goal.lines-init
+lines-init g c = record {
+  told = λ t u. going_first (g.F.Fingerprint.printed c.args.print.now) (scratch_sizes c.args.scratch.now) (scratch_state c.args.scratch.now (g.R.Rig.world c.args.rig.now))
+      (commands_of c.args.scratch.now.blocks (left c.args.reader.now (g.S.Source.rest c.args.source.now))) (g.R.Rig.world c.args.rig.now).said (g.R.Rig.counts c.args.rig.now);
+  sound = search rules;
+  others = search rules;
+  time = search rules;
+  fits = search rules;
+  sizes = search rules;
+  count = search rules;
+  bounded = search rules;
+  bounds = search rules;
+  passes = search rules;
+  untouched = search rules;
+  later = search rules;
+  later_source = search rules;
+}
 
 pub lines-preserved : goal.lines-preserved
 lines-preserved g c =
