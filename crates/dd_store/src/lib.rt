@@ -8,15 +8,18 @@
 //! are still to come.
 #![tactic(auto)]
 
+mod along;
 mod commit;
 mod fault;
 mod lay;
+mod lay_all;
 mod mark;
 mod place;
 mod refer;
 mod store;
 mod used;
 
+pub use along::Along;
 pub use commit::commit_rows;
 pub use fault::StoreFault;
 pub use lay::{lay_block, lay_row, sync_laid};

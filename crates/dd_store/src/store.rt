@@ -32,6 +32,7 @@ use std::marker::Model;
 
 mod accessors;
 mod refers;
+mod rounds;
 mod ticks;
 
 /// A cache over two devices: the array and both recency lists, of which what is committed survives a
@@ -246,6 +247,7 @@ impl<F: Fingerprint, L: Lists> Store<F, L> {
         ensures unsaid { R.tells → Elapses (R.clock rig.old) (R.clock rig.new) (λ o. o.out ≡ (R.world rig.old).said) }
         ensures said { R.tells → (R.world rig.new).said ≡ (R.world rig.old).said }
         ensures ok { OnOk result (self.new.store ≡ marked_store self.old.store) }
+        ensures fewer { OnOk result (length self.new.store.dirty + length self.old.store.laid ≡ length self.old.store.dirty) }
         ensures down { OnErr result (self.new.store ≡ downed self.old.store) }
         ensures fault { IfErr result (λ fault. fault ≡ DiskWrite) }
         ensures print { self.new.print ≡ self.old.print }

@@ -1,5 +1,5 @@
 // One dirty address is written back.
-ghost use Rattle.std.specs.Prelude.{◌≡◌, ◌≢◌, ◌-◌, ◌^◌, ◌<◌, [], ◌∷◌, true, Ok, None, IfOk, IfSome, IfErr, OnOk};
+ghost use Rattle.std.specs.Prelude.{◌≡◌, ◌≢◌, ◌+◌, ◌-◌, ◌*◌, ◌^◌, ◌<◌, ◌≤◌, [], ◌∷◌, length, true, Ok, None, IfOk, IfSome, IfErr, OnOk};
 ghost use Rattle.dd_rig.specs.Clock.{Elapses};
 ghost use Rattle.dd_rig.specs.Counts.{Frame, CalledAtMost, up_to};
 ghost use Rattle.dd_layout.specs.Layout.{disk_block};
@@ -9,6 +9,7 @@ ghost use Rattle.dd_model.specs.Listing.{next_of};
 ghost use Rattle.dd_store.specs.declared.fault.StoreFault.TheVariants.{FlashRead, DiskRead};
 ghost use Rattle.dd_store.specs.Keeping.{Kept};
 ghost use Rattle.dd_store.specs.Committing.{committed_store};
+ghost use Rattle.dd_store.specs.Rounds.{Cleans, LoadsAtMost};
 ghost use Rattle.dd_store.specs.Serving.{written_back, unlaid, IsReady, MayCall, Serves, StaysUp, Faulted, GrowsLittle};
 
 use super::Store;
@@ -57,7 +58,7 @@ impl<F: Fingerprint, L: Lists> Store<F, L> {
     }
 
     // Commits, lays a dirty address and marks it clean.
-    fn write_back<R: Rig>(&mut self, rig: &mut R, address: u32) -> Result<(), StoreFault>
+    pub(super) fn write_back<R: Rig>(&mut self, rig: &mut R, address: u32) -> Result<(), StoreFault>
         requires call { IsReady self.old.store (R.device_size rig.old) }
         requires epoch { self.old.store.journal.epoch < 2 ^ 64 - 1 }
         requires below { address < self.old.store.journal.geo.blocks }
@@ -75,6 +76,11 @@ impl<F: Fingerprint, L: Lists> Store<F, L> {
         ensures geometry { self.new.store.journal.geo ≡ self.old.store.journal.geo }
         ensures count { self.new.store.count ≡ self.old.store.count }
         ensures grows { GrowsLittle self.old.store self.new.store }
+        ensures cleans { OnOk result (Cleans self.old.store self.new.store) }
+        ensures failed { IfErr result (λ fault. fault ≡ FlashRead → Cleans self.old.store self.new.store) }
+        ensures rises { self.new.store.journal.epoch + length self.new.store.dirty ≤ self.old.store.journal.epoch + length self.old.store.dirty + 1 }
+        ensures sinks { OnOk result (self.new.store.journal.epoch + length self.new.store.dirty ≤ self.old.store.journal.epoch + length self.old.store.dirty) }
+        ensures loads { OnOk result (LoadsAtMost 0 self.old.store self.new.store (R.counts rig.old).disk (R.counts rig.new).disk) }
         ensures disk { CalledAtMost (up_to 0 2 self.old.store.journal.geo.block) (R.counts rig.old).disk (R.counts rig.new).disk }
         ensures cause { IfErr result (λ fault. Faulted fault (R.counts rig.old) (R.counts rig.new)) }
         ensures frame { Frame (R.counts rig.old) (R.counts rig.new) (R.device_size rig.old) (R.device_size rig.new) }

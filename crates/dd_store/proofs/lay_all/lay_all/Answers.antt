@@ -1,0 +1,60 @@
+use Rattle.std.proofs.Common.{◌≡◌, ℕ, suc, ◌+◌, ◌<◌, List, length, take, ◌∙◌, subst, arith}
+use Rattle.dd_rig.proofs.Moments.{goes_on}
+use Rattle.dd_rig.proofs.Falling.{frame_trans}
+use Rattle.dd_store.specs.Keeping.{Kept}
+use Rattle.dd_store.specs.Laying.{all_laid}
+use Rattle.dd_store.proofs.LayingAll.{laid_first_is, may_next, laid_more, laid_lost, whole}
+use Rattle.dd_store.proofs.lay_all.lay_all.Goals as goal
+
+pub returns-in-Err-clause-crash : goal.returns-in-Err-clause-crash
+returns-in-Err-clause-crash g c = λ told print store s geo same is may kept.
+    let i = c.loop-address.address-index in
+    let all = c.args.addresses.now in
+    let inv = c.loop-address.invariant in
+    let lt : i < length all = omega arith in
+    let now = all_laid (take i all) store in
+    goes_on (inv.crash told print store s geo same is may kept)
+    (c.lay_address.ensures.crash told print now s geo same (laid_first_is store all is may i) (may_next store all is may i lt) (inv.laid told print store s geo same is may kept)) (λ o stands. stands)
+
+pub returns-in-Err-clause-kept : goal.returns-in-Err-clause-kept
+returns-in-Err-clause-kept g c = λ told print store s geo same is may kept.
+    let i = c.loop-address.address-index in
+    let all = c.args.addresses.now in
+    let inv = c.loop-address.invariant in
+    let lt : i < length all = omega arith in
+    let now = all_laid (take i all) store in
+    laid_lost store all is may print (g.R.Rig.world c.lay_address.new.rig) s (take i all)
+    (c.lay_address.ensures.kept told print now s geo same (laid_first_is store all is may i) (may_next store all is may i lt) (inv.laid told print store s geo same is may kept))
+
+pub loop-address-preserved : goal.loop-address-preserved
+loop-address-preserved g c =
+    let i = c.loop-address.address-index in
+    let all = c.args.addresses.now in
+    let inv = c.loop-address.invariant in
+    let lt : i < length all = omega arith in
+    let next : suc i ≡ i + 1 = omega arith in
+    record {
+      crash = λ told print store s geo same is may kept.
+          goes_on (inv.crash told print store s geo same is may kept)
+          (c.lay_address.ensures.crash told print (all_laid (take i all) store) s geo same (laid_first_is store all is may i) (may_next store all is may i lt) (inv.laid told print store s geo same is may kept)) (λ o stands. stands);
+      laid = λ told print store s geo same is may kept.
+          subst (λ (n : ℕ). Kept print (all_laid (take n all) store) (g.R.Rig.world c.lay_address.new.rig) s s) next
+          (laid_more store all is may print (g.R.Rig.world c.lay_address.new.rig) s i lt
+          (c.in-Ok.ensures.laid told print (all_laid (take i all) store) s geo same (laid_first_is store all is may i) (may_next store all is may i lt) (inv.laid told print store s geo same is may kept)));
+      unsaid = λ told. goes_on (inv.unsaid told) (c.lay_address.ensures.unsaid told) (λ o out. out ∙ inv.said told);
+      said = λ told. c.lay_address.ensures.said told ∙ inv.said told;
+      reads = omega (arith, inv.reads, c.lay_address.ensures.calls.1.0);
+      writes = omega (arith, inv.writes, c.lay_address.ensures.calls.1.1);
+      frame = frame_trans _ _ _ _ _ _ inv.frame c.lay_address.ensures.frame;
+    }
+
+pub returns-clause-kept : goal.returns-clause-kept
+returns-clause-kept g c = λ told print store s geo same is may kept.
+    let all = c.args.addresses.now in
+    laid_lost store all is may print (g.R.Rig.world c.loop-address.rig) s _ (c.loop-address.invariant.laid told print store s geo same is may kept)
+
+pub returns-clause-laid : goal.returns-clause-laid
+returns-clause-laid g c = λ told print store s geo same is may kept.
+    let all = c.args.addresses.now in
+    let end : c.loop-address.address-index ≡ length all = omega arith in
+    subst (λ (ns : List ℕ). Kept print (all_laid ns store) (g.R.Rig.world c.loop-address.rig) s s) (whole all c.loop-address.address-index end) (c.loop-address.invariant.laid told print store s geo same is may kept)
