@@ -68,7 +68,7 @@ impl<F: Fingerprint, L: Lists> Model for Store<F, L> {
 
     ghost invariant = { λ s. (s.journal.geo ≡ s.geo) × (length s.block.items ≡ s.geo.block) × (s.geo.group ≤ vec_capacity s.laid) × (s.geo.group ≤ vec_capacity s.pending)
         × AreSlotsOf s.geo s.slots × HasLimits s.geo (L.listing s.lists) × (length s.laid.items ≤ s.geo.group)
-        × (s.up ≡ true → IsStore (store_of s.up s.journal (L.listing s.lists) s.count s.pending.items s.slots.uses s.laid.items)) };
+        × (s.up ≡ true → IsStore (store_of s.up s.journal (L.listing s.lists) s.count s.pending.items s.slots.uses s.laid.items)) × (length s.pending.items ≤ s.geo.group) };
 }
 
 impl<F: Fingerprint, L: Lists> Store<F, L> {

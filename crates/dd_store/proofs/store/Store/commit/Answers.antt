@@ -23,6 +23,7 @@ invariant_of-self-in-Ok g c =
           flushed_is (λ (v : StoreView). IsStore v) was c.commit_rows.new.journal c.clear-in-Ok.new.self.items c.settle.new.self.uses c.clear.new.self.items
           c.clear-in-Ok.ensures.items (ap (λ (v : SlotsView). v.uses) c.settle.ensures) c.clear.ensures.items
           (committed_is (unlaid was) c.commit_rows.new.journal (unlaid_is was is) c.in-Ok.ensures.ok.0 c.commit_rows.ensures.geometry c.commit_rows.ensures.version c.in-Ok.ensures.ok.1),
+      omega (arith, ap length c.clear-in-Ok.ensures.items),
     )
 
 pub returns-in-Err-clause-serves : goal.returns-in-Err-clause-serves

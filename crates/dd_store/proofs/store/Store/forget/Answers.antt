@@ -16,4 +16,5 @@ invariant_of-self g c =
       c.self.invariant.5,
       omega (arith, ap (λ (ns : List ℕ). length ns) c.clear.ensures.items),
       λ up. subst (λ (ns : List ℕ). IsStore (record was { laid = ns })) (sym c.clear.ensures.items) (unlaid_is was (c.self.invariant.7 up)),
+      c.self.invariant.8,
     )

@@ -41,6 +41,7 @@ invariant_of-self g c =
           let is : IsStore was = c.self.invariant.7 (ap (λ (v : StoreOf g.row.F.Denot). v.store.is_up) c.self.view_is ∙ c.requires.call.up) in
           let may : MayLay was c.args.address = subst (λ (v : StoreOf g.row.F.Denot). MayLay v.store c.args.address) (sym c.self.view_is) c.requires.may in
           subst (λ (ns : List ℕ). IsStore (record was { laid = ns })) (sym c.push_reserved.ensures.items) (laid_one_is was c.args.address is may few),
+      c.self.invariant.8,
     )
 
 pub invariant_of-self-in-FlashRead : goal.invariant_of-self-in-FlashRead
@@ -55,6 +56,7 @@ invariant_of-self-in-FlashRead g c =
       c.self.invariant.5,
       omega (arith, ap length c.clear.ensures.items),
       λ up. subst (λ (ns : List ℕ). IsStore (record was { laid = ns })) (sym c.clear.ensures.items) (unlaid_is was (c.self.invariant.7 up)),
+      c.self.invariant.8,
     )
 
 pub returns-in-Ok-clause-serves : goal.returns-in-Ok-clause-serves

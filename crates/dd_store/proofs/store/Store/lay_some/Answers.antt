@@ -37,6 +37,7 @@ invariant_of-self g c =
       c.self.invariant.5,
       gathered_few lists referrers (g.met.L.Lists.kept i.lists) (λ slot. g.met.L.Lists.walked i.lists slot) c.args.along i.geo.group ns c.gather.ensures.first,
       λ up. laid_all_is (unlaid was) ns (unlaid_is was is) (gathered_may lists referrers (g.met.L.Lists.kept i.lists) (λ slot. g.met.L.Lists.walked i.lists slot) c.args.along i.geo.group ns c.gather.ensures.first was refl none most),
+      c.self.invariant.8,
     )
 
 pub invariant_of-self-in-FlashRead : goal.invariant_of-self-in-FlashRead
@@ -54,6 +55,7 @@ invariant_of-self-in-FlashRead g c =
       c.self.invariant.5,
       omega (arith, ap (λ (ns : List ℕ). length ns) c.clear-in-Err.ensures.items),
       λ up. subst (λ (ns : List ℕ). IsStore (record was { laid = ns })) (sym c.clear-in-Err.ensures.items) (unlaid_is was is),
+      c.self.invariant.8,
     )
 
 pub returns-in-Ok-clause-some : goal.returns-in-Ok-clause-some

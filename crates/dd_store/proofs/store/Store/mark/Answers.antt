@@ -1,8 +1,10 @@
-use Rattle.std.proofs.Common.{◌≡◌, ℕ, ◌+◌, ◌<◌, List, [], ◌++◌, length, inl, inr, refl, sym, ◌∙◌, ap, subst, true, arith}
+use Rattle.std.proofs.Common.{◌≡◌, ℕ, ◌+◌, ◌<◌, List, [], ◌++◌, length, inl, inr, refl, sym, ◌∙◌, ap, subst, true, arith, length-append}
 use Rattle.std.specs.List.{AllByRecursion}
+use Rattle.std.proofs.lemmas.List.{length-map}
 use Rattle.dd_rig.specs.declared.device.Dev.TheVariants.{Flash, Disk}
 use Rattle.dd_rig.proofs.Moments.{widens}
 use Rattle.dd_record.specs.declared.rec.Rec.{Rec}
+use Rattle.dd_record.specs.declared.rec.Rec.TheVariants.{Clean}
 use Rattle.dd_record.specs.Table.{is_dirty_at}
 use Rattle.dd_model.specs.Listing.{Listing}
 use Rattle.dd_store.specs.Keeping.{StoreView, IsStore, Kept}
@@ -25,7 +27,9 @@ mark_all-requires-clause-dirty g c =
 
 pub invariant_of-self-in-Ok : goal.invariant_of-self-in-Ok
 invariant_of-self-in-Ok g c =
-    let limits : HasLimits c.self.inside.geo (g.L.Lists.listing c.self.inside.lists) = c.self.invariant.5 in (
+    let limits : HasLimits c.self.inside.geo (g.L.Lists.listing c.self.inside.lists) = c.self.invariant.5 in
+    let before : StoreView = store_of c.self.inside.up c.self.inside.journal (g.L.Lists.listing c.self.inside.lists) c.self.inside.count c.self.inside.pending.items c.self.inside.slots.uses c.self.inside.laid.items in
+    let none_before : before.pending ≡ [] = pending_none before (c.self.invariant.7 (ap (λ (v : StoreOf g.row.F.Denot). v.store.is_up) c.self.view_is ∙ c.requires.call.up)) (subst (λ (v : StoreOf g.row.F.Denot). 0 < length v.store.laid) (sym c.self.view_is) c.requires.some) in (
       c.self.invariant.0,
       c.self.invariant.1,
       omega (arith, c.self.invariant.2, c.clear.ensures.capacity),
@@ -45,6 +49,15 @@ invariant_of-self-in-Ok g c =
           (c.mark_all.ensures.pending ∙ ap (λ (recs : List Rec). recs ++ clean_records c.as_slice.result.now) none ∙ ap clean_records c.as_slice.ensures.value)
           c.clear.ensures.items in
           subst (λ (v : StoreView). IsStore v) (sym same) (marked_is was is none),
+      omega (
+        arith,
+        ap (λ (recs : List Rec). length recs) c.mark_all.ensures.pending,
+        length-append c.self.inside.pending.items (clean_records c.as_slice.result.now),
+        length-map c.as_slice.result.now (λ (address : ℕ). Clean address),
+        ap (λ (ns : List ℕ). length ns) c.as_slice.ensures.value,
+        ap (λ (recs : List Rec). length recs) none_before,
+        c.self.invariant.6,
+      ),
     )
 
 pub returns-in-Err-clause-serves : goal.returns-in-Err-clause-serves

@@ -22,6 +22,7 @@ invariant_of-self g c =
       c.self.invariant.5,
       omega (arith, ap length c.clear.ensures.items),
       λ up. subst (λ (ns : List ℕ). IsStore (record was { laid = ns })) (sym c.clear.ensures.items) (unlaid_is was (c.self.invariant.7 up)),
+      c.self.invariant.8,
     )
 
 pub write_back-requires-clause-below : goal.write_back-requires-clause-below
