@@ -1,9 +1,15 @@
 -- Dirty addresses that were made clean, one after the other: how many are left, and rounds in a row.
-use Rattle.std.proofs.Common.{◌≡◌, ℕ, suc, ◌+◌, ◌≤◌, ◌==◌, not, Bool, true, false, cond, List, [], ◌∷◌, ◌++◌, length, map, refl, sym, ◌∙◌, ap, subst, Some, arith, length-append}
+use Rattle.std.proofs.Common.{◌≡◌, ℕ, suc, ◌+◌, ◌<◌, ◌≤◌, ◌==◌, not, Bool, true, false, cond, List, [], ◌∷◌, ◌++◌, length, map, refl, sym, ◌∙◌, ap, subst, Some, arith, length-append}
 use Rattle.std.specs.Prelude.{◌&&◌, ◌||◌, Result, Ok, Err, OnOk, IfErr}
 use Rattle.std.specs.List.{AllByRecursion, IsDistinct}
 use Rattle.std.proofs.lemmas.Bool.{eqb-true, eq-eqb}
 use Rattle.std.proofs.lemmas.List.{length-map}
+use Rattle.dd_block.specs.declared.print.Fp.{Fp}
+use Rattle.dd_block.specs.declared.geometry.Geometry.{Geometry}
+use Rattle.dd_rig.specs.Clock.{Clock}
+use Rattle.dd_rig.specs.World.{World}
+use Rattle.dd_layout.specs.Layout.{disk_block}
+use Rattle.dd_model.specs.State.{State, content}
 use Rattle.dd_slots.specs.Numbers.{is_among, Enumerates}
 use Rattle.dd_slots.proofs.Numbers.{few_among}
 use Rattle.dd_record.specs.declared.row.ARow.{ARow}
@@ -13,10 +19,13 @@ use Rattle.dd_model.specs.Listing.{without}
 use Rattle.dd_model.proofs.Dirty.{cleaned_ones}
 use Rattle.dd_store.specs.declared.fault.StoreFault.{StoreFault}
 use Rattle.dd_store.specs.declared.fault.StoreFault.TheVariants.{FlashRead}
+use Rattle.dd_store.specs.declared.along.Along.TheVariants.{Age}
 use Rattle.dd_store.specs.Keeping.{StoreView, IsStore}
 use Rattle.dd_store.specs.Laying.{all_cleaned, all_without}
-use Rattle.dd_store.specs.Rounds.{Cleans}
-use Rattle.dd_store.specs.Serving.{unlaid}
+use Rattle.dd_store.specs.Rounds.{Cleans, has_along}
+use Rattle.dd_store.specs.Serving.{Serves, unlaid}
+use Rattle.dd_store.proofs.Marking.{dirty_all}
+use Rattle.dd_store.proofs.Walks.{none_of}
 
 stays : (number : ℕ) (numbers : List ℕ) → AllByRecursion (λ other. (number == other) ≡ false) numbers → without number numbers ≡ numbers
 stays number [] h = refl
@@ -110,3 +119,22 @@ pub dirty_few : (store : StoreView) → IsStore store → length store.dirty ≤
 dirty_few store is =
     let rows = store.table.a in
     omega (arith, few_among (λ address. is_dirty_at address rows) store.dirty (map (λ (row : ARow). row.address) rows) is.dirty (λ m dirty. dirty_listed m rows dirty), length-map rows (λ (row : ARow). row.address), is.rows.len_a)
+
+-- where no dirty address is left none is dirty
+pub none_dirty : (old new : StoreView) → IsStore old → Cleans old new → new.dirty ≡ [] → (at : ℕ) → is_dirty_at at new.table.a ≡ false
+none_dirty old new is cleans none at =
+    let ones : Enumerates (λ n. is_dirty_at n (all_cleaned cleans.done old.table.a)) (all_without cleans.done old.dirty) = dirty_all cleans.done old.table.a old.dirty is.dirty in
+    ap (λ (t : Table). is_dirty_at at t.a) cleans.rows ∙ sym (ones.each at) ∙ ap (is_among at) (sym cleans.ages ∙ none)
+
+pub none_left : {T E : Type 0} (result : Result T E) (store : StoreView) → OnOk result (has_along Age store ≡ false) → OnOk result (store.dirty ≡ [])
+none_left (Ok done) store none = none_of store.dirty none
+none_left (Err fault) store none = tt
+
+-- and the disk shows the array
+pub clean_shows : {T : Type 0} (print : List ℕ → Fp) (result : Result T StoreFault) (old new : StoreView) (before after : Clock) (world : World) (c s : State) → IsStore old → new.journal.geo ≡ old.journal.geo
+    → OnOk result (Cleans old new) → OnOk result (new.dirty ≡ []) → Serves print result before after new world c s s
+    → OnOk result ((address : ℕ) → address < old.journal.geo.blocks → disk_block old.journal.geo world.disk.shown address ≡ content s.array address)
+clean_shows print (Ok done) old new before after world c s is same cleans none serves = λ address below.
+    subst (λ (g : Geometry). disk_block g world.disk.shown address ≡ content s.array address) same
+    (sym (serves.leaves.kept.holds.means.clean address (subst (λ (g : Geometry). address < g.blocks) (sym same) below) (none_dirty old new is cleans none address)))
+clean_shows print (Err fault) old new before after world c s is same cleans none serves = tt

@@ -59,7 +59,7 @@ others_dirty at (address ∷ addresses) rows none =
     others_dirty at addresses (cleaned address rows) parts.1 ∙ other_dirty at address rows parts.0
 
 -- the dirty ones are those that weren't made clean
-dirty_all : (addresses : List ℕ) (rows : List ARow) (dirty : List ℕ) → Enumerates (λ at. is_dirty_at at rows) dirty → Enumerates (λ at. is_dirty_at at (all_cleaned addresses rows)) (all_without addresses dirty)
+pub dirty_all : (addresses : List ℕ) (rows : List ARow) (dirty : List ℕ) → Enumerates (λ at. is_dirty_at at rows) dirty → Enumerates (λ at. is_dirty_at at (all_cleaned addresses rows)) (all_without addresses dirty)
 dirty_all [] rows dirty ones = ones
 dirty_all (address ∷ addresses) rows dirty ones =
     dirty_all addresses (cleaned address rows) (all_without (address ∷ []) dirty)

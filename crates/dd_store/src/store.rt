@@ -31,6 +31,7 @@ use std::alloc::{AllocError, Global};
 use std::marker::Model;
 
 mod accessors;
+mod cleans;
 mod refers;
 mod rounds;
 mod ticks;

@@ -142,7 +142,7 @@ impl<F: Fingerprint, L: Lists> Store<F, L> {
     }
 
     // Rounds along a walk, until it has no address.
-    fn rounds<R: Rig>(&mut self, rig: &mut R, along: Along) -> Result<(), StoreFault>
+    pub(super) fn rounds<R: Rig>(&mut self, rig: &mut R, along: Along) -> Result<(), StoreFault>
         requires call { IsReady self.old.store (R.device_size rig.old) }
         requires epoch { self.old.store.journal.epoch + length self.old.store.dirty < 2 ^ 64 - 1 }
         ensures serves { R.tells → (c s : State) → Kept (F.printed self.old.print) self.old.store (R.world rig.old) c s
