@@ -33,6 +33,7 @@ use std::marker::Model;
 mod accessors;
 mod cleans;
 mod refers;
+mod room;
 mod rounds;
 mod ticks;
 

@@ -34,6 +34,8 @@ impl<F: Fingerprint, L: Lists> Store<F, L> {
         ensures ages { IfOk result (λ done. IfSome done (λ address. self.old.store.dirty ≡ address ∷ self.new.store.dirty)) }
         ensures idle { self.old.store.dirty ≡ [] → (result ≡ Ok None) × (rig.new ≡ rig.old) }
         ensures rows { IfErr result (λ fault. fault ≡ FlashRead → self.new.store ≡ committed_store (unlaid self.old.store) self.new.store.journal) }
+        ensures cleans { OnOk result (Cleans self.old.store self.new.store) }
+        ensures failed { IfErr result (λ fault. fault ≡ FlashRead → Cleans self.old.store self.new.store) }
         ensures fault { IfErr result (λ fault. fault ≢ DiskRead) }
         ensures up { StaysUp result self.new.store }
         ensures print { self.new.print ≡ self.old.print }
@@ -41,13 +43,15 @@ impl<F: Fingerprint, L: Lists> Store<F, L> {
         ensures geometry { self.new.store.journal.geo ≡ self.old.store.journal.geo }
         ensures count { self.new.store.count ≡ self.old.store.count }
         ensures grows { GrowsLittle self.old.store self.new.store }
+        ensures reads { (R.counts rig.new).disk.reads ≤ (R.counts rig.old).disk.reads }
+        ensures loads { OnOk result (LoadsAtMost 0 self.old.store self.new.store (R.counts rig.old).disk (R.counts rig.new).disk) }
         ensures disk { CalledAtMost (up_to 0 2 self.old.store.journal.geo.block) (R.counts rig.old).disk (R.counts rig.new).disk }
         ensures cause { IfErr result (λ fault. Faulted fault (R.counts rig.old) (R.counts rig.new)) }
         ensures frame { Frame (R.counts rig.old) (R.counts rig.new) (R.device_size rig.old) (R.device_size rig.new) }
     {
         match self.lists.oldest_dirty() {
             None => {
-                self.laid.clear();
+                self.forget();
                 Ok(None)
             }
             Some(address) => match self.write_back(rig, address) {

@@ -1,29 +1,12 @@
-use Rattle.std.proofs.Common.{◌≡◌, ◌<◌, ℕ, List, ◌∷◌, length, inl, refl, sym, ◌∙◌, ap, subst, Some, None, arith}
+use Rattle.std.proofs.Common.{◌≡◌, ◌<◌, ℕ, ◌∷◌, sym, ◌∙◌, ap, subst, Some, None, arith}
 use Rattle.std.specs.Prelude.{Option}
-use Rattle.dd_rig.proofs.Moments.{starts}
 use Rattle.dd_record.specs.Table.{is_dirty_at}
 use Rattle.dd_model.specs.Listing.{next_of, without}
-use Rattle.dd_store.specs.Keeping.{StoreView, IsStore, Kept}
+use Rattle.dd_store.specs.Keeping.{StoreView, IsStore}
 use Rattle.dd_store.specs.Serving.{StoreOf, store_of}
-use Rattle.dd_store.proofs.Flushing.{unlaid_is, kept_unlaid}
-use Rattle.dd_store.proofs.Serves.{serves_ok, serves_err}
+use Rattle.dd_store.proofs.Serves.{serves_ok, serves_err, unlaid_serves}
 use Rattle.dd_store.proofs.Ticking.{oldest_is_dirty, oldest_below, oldest_first, written_shows}
 use Rattle.dd_store.proofs.store.Store.tick.Goals as goal
-
-pub invariant_of-self : goal.invariant_of-self
-invariant_of-self g c =
-    let i = c.self.inside in
-    let was : StoreView = store_of i.up i.journal (g.L.Lists.listing i.lists) i.count i.pending.items i.slots.uses i.laid.items in (
-      c.self.invariant.0,
-      c.self.invariant.1,
-      omega (arith, c.self.invariant.2, c.clear.ensures.capacity),
-      c.self.invariant.3,
-      c.self.invariant.4,
-      c.self.invariant.5,
-      omega (arith, ap length c.clear.ensures.items),
-      λ up. subst (λ (ns : List ℕ). IsStore (record was { laid = ns })) (sym c.clear.ensures.items) (unlaid_is was (c.self.invariant.7 up)),
-      c.self.invariant.8,
-    )
 
 pub write_back-requires-clause-below : goal.write_back-requires-clause-below
 write_back-requires-clause-below g c =
@@ -43,19 +26,7 @@ write_back-requires-clause-dirty g c =
 
 pub returns-in-None-clause-serves : goal.returns-in-None-clause-serves
 returns-in-None-clause-serves g c = λ told was_it s kept.
-    let i = c.self.inside in
-    let was : StoreView = store_of i.up i.journal (g.L.Lists.listing i.lists) i.count i.pending.items i.slots.uses i.laid.items in
-    let world = g.R.Rig.world c.args.rig.now in
-    let print = g.F.Fingerprint.printed c.args.self.now.print in
-    let its : Kept print was world was_it s = subst (λ (v : StoreOf g.row.F.Denot). Kept print v.store world was_it s) (sym c.self.view_is) kept in
-    record {
-      crash = starts (g.R.Rig.clock c.args.rig.now) _;
-      leaves = record {
-        committed = was_it;
-        either = inl refl;
-        kept = subst (λ (ns : List ℕ). Kept print (record was { laid = ns }) world was_it s) (sym c.clear.ensures.items) (kept_unlaid print was world was_it s its);
-      };
-    }
+    unlaid_serves (g.F.Fingerprint.printed c.args.self.now.print) (g.R.Rig.clock c.args.rig.now) c.args.self.now.store c.forget.new.self.store (g.R.Rig.world c.args.rig.now) was_it s None c.forget.ensures.store kept
 
 pub returns-in-Err-clause-serves : goal.returns-in-Err-clause-serves
 returns-in-Err-clause-serves g c = λ told was_it s kept.
