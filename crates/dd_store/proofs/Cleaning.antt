@@ -6,7 +6,6 @@ use Rattle.std.proofs.lemmas.Bool.{eqb-true, eq-eqb}
 use Rattle.std.proofs.lemmas.List.{length-map}
 use Rattle.dd_block.specs.declared.print.Fp.{Fp}
 use Rattle.dd_block.specs.declared.geometry.Geometry.{Geometry}
-use Rattle.dd_rig.specs.Clock.{Clock}
 use Rattle.dd_rig.specs.World.{World}
 use Rattle.dd_layout.specs.Layout.{disk_block}
 use Rattle.dd_model.specs.State.{State, content}
@@ -23,7 +22,7 @@ use Rattle.dd_store.specs.declared.along.Along.TheVariants.{Age}
 use Rattle.dd_store.specs.Keeping.{StoreView, IsStore}
 use Rattle.dd_store.specs.Laying.{all_cleaned, all_without}
 use Rattle.dd_store.specs.Rounds.{Cleans, has_along}
-use Rattle.dd_store.specs.Serving.{Serves, unlaid}
+use Rattle.dd_store.specs.Serving.{HoldsThen, unlaid}
 use Rattle.dd_store.proofs.Marking.{dirty_all}
 use Rattle.dd_store.proofs.Walks.{none_of}
 
@@ -131,10 +130,10 @@ none_left (Ok done) store none = none_of store.dirty none
 none_left (Err fault) store none = tt
 
 -- and the disk shows the array
-pub clean_shows : {T : Type 0} (print : List ℕ → Fp) (result : Result T StoreFault) (old new : StoreView) (before after : Clock) (world : World) (c s : State) → IsStore old → new.journal.geo ≡ old.journal.geo
-    → OnOk result (Cleans old new) → OnOk result (new.dirty ≡ []) → Serves print result before after new world c s s
+pub clean_shows : {T : Type 0} (print : List ℕ → Fp) (result : Result T StoreFault) (old new : StoreView) (world : World) (s : State) → IsStore old → new.journal.geo ≡ old.journal.geo
+    → OnOk result (Cleans old new) → OnOk result (new.dirty ≡ []) → HoldsThen print result s s new world
     → OnOk result ((address : ℕ) → address < old.journal.geo.blocks → disk_block old.journal.geo world.disk.shown address ≡ content s.array address)
-clean_shows print (Ok done) old new before after world c s is same cleans none serves = λ address below.
+clean_shows print (Ok done) old new world s is same cleans none holds = λ address below.
     subst (λ (g : Geometry). disk_block g world.disk.shown address ≡ content s.array address) same
-    (sym (serves.leaves.kept.holds.means.clean address (subst (λ (g : Geometry). address < g.blocks) (sym same) below) (none_dirty old new is cleans none address)))
-clean_shows print (Err fault) old new before after world c s is same cleans none serves = tt
+    (sym (holds.means.clean address (subst (λ (g : Geometry). address < g.blocks) (sym same) below) (none_dirty old new is cleans none address)))
+clean_shows print (Err fault) old new world s is same cleans none holds = tt

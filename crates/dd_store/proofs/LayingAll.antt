@@ -17,13 +17,14 @@ use Rattle.dd_model.specs.State.{State}
 use Rattle.dd_model.specs.Listing.{Listing, IsListing, IsLinkBelow, is_referrer}
 use Rattle.dd_model.proofs.Kept.{all_of}
 use Rattle.dd_store.specs.declared.along.Along.{Along}
-use Rattle.dd_store.specs.Keeping.{StoreView, IsStore, Kept}
+use Rattle.dd_store.specs.Keeping.{StoreView, IsStore, Holds, Kept}
 use Rattle.dd_store.specs.Laying.{MayLay, MayLayRow, MayLayAll, all_laid, laid_store, IsPlacedRow}
 use Rattle.dd_store.specs.Rounds.{walk_of, has_along}
 use Rattle.dd_store.specs.Serving.{unlaid}
 use Rattle.dd_store.proofs.LayingOne.{row_may, row_at}
 use Rattle.dd_store.proofs.LayingRow.{found_row}
 use Rattle.dd_store.proofs.Flushing.{kept_unlaid}
+use Rattle.dd_store.proofs.Holding.{holds_unlaid}
 use Rattle.dd_store.proofs.Marking.{dirty_below}
 use Rattle.dd_store.proofs.MarkingAll.{among_at, not_before}
 use Rattle.dd_store.proofs.Walks.{all_take, apart_take, first_dirty, first_apart, first_some}
@@ -55,6 +56,13 @@ link_below geo version Zero fp with_ = tt
 pub rows_placed : (store : StoreView) (geo : Geometry) → store.journal.geo ≡ geo → IsStore store → AllByRecursion (IsPlacedRow geo) store.table.a
 rows_placed store geo same is = subst (λ (g : Geometry). AllByRecursion (IsPlacedRow g) store.table.a) same
     (all_of (IsA store.journal.geo store.journal.version) (IsPlacedRow store.journal.geo) store.table.a (λ row keeps. (keeps.address, link_below store.journal.geo store.journal.version row.link row.fp keeps.link)) is.rows.a_rows)
+
+-- one more of them
+pub taken_next : (ns : List ℕ) (n : ℕ) → n < length ns → take n ns ++ get_or ns n 0 ∷ [] ≡ take (suc n) ns
+taken_next [] n h = absurd (omega (arith, h))
+taken_next (m ∷ []) zero h = refl
+taken_next (m ∷ k ∷ ns) zero h = refl
+taken_next (m ∷ ns) (suc n) h = ap (λ (ms : List ℕ). m ∷ ms) (taken_next ns n (omega (arith, h)))
 
 -- all of them
 pub whole : (ns : List ℕ) (n : ℕ) → n ≡ length ns → take n ns ≡ ns
@@ -148,14 +156,12 @@ module _ (store : StoreView) (addresses : List ℕ) (is : IsStore store) (may : 
 
     -- behind one more
     pub laid_more : (i : ℕ) → i < length addresses → Kept print (laid_store (get_or addresses i 0) (all_laid (take i addresses) store)) world s s → Kept print (all_laid (take (suc i) addresses) store) world s s
-    laid_more i lt kept = subst (λ (ns : List ℕ). Kept print (all_laid ns store) world s s) (taken_more addresses i lt) kept
-      where
-        taken_more : (ns : List ℕ) (n : ℕ) → n < length ns → take n ns ++ get_or ns n 0 ∷ [] ≡ take (suc n) ns
-        taken_more [] n h = absurd (omega (arith, h))
-        taken_more (m ∷ []) zero h = refl
-        taken_more (m ∷ k ∷ ns) zero h = refl
-        taken_more (m ∷ ns) (suc n) h = ap (λ (ms : List ℕ). m ∷ ms) (taken_more ns n (omega (arith, h)))
+    laid_more i lt kept = subst (λ (ns : List ℕ). Kept print (all_laid ns store) world s s) (taken_next addresses i lt) kept
 
     -- what is laid may be forgotten
     pub laid_lost : (ns : List ℕ) → Kept print (all_laid ns store) world s s → Kept print store world s s
     laid_lost ns kept = subst (λ (ms : List ℕ). Kept print (all_laid ms store) world s s) (sym may.unlaid) (kept_unlaid print (all_laid ns store) world s s kept)
+
+-- the same of what it holds
+pub holds_lost : (store : StoreView) (addresses : List ℕ) → MayLayAll store addresses → (print : List ℕ → Fp) (world : World) (s : State) (ns : List ℕ) → Holds print (all_laid ns store) world s → Holds print store world s
+holds_lost store addresses may print world s ns holds = subst (λ (ms : List ℕ). Holds print (all_laid ms store) world s) (sym may.unlaid) (holds_unlaid print (all_laid ns store) world s holds)

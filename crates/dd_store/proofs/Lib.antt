@@ -5,6 +5,7 @@ pub mod Committing
 pub mod Flushing
 pub mod Kept
 pub mod Growing
+pub mod Holding
 pub mod Known
 pub mod Laying
 pub mod LayingAll

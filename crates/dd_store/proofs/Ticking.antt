@@ -13,7 +13,7 @@ use Rattle.dd_model.specs.Listing.{without, next_of}
 use Rattle.dd_model.proofs.Dirty.{dirty_cleaned}
 use Rattle.dd_model.proofs.Stepping.{next_among}
 use Rattle.dd_journal.specs.Sitting.{JournalView}
-use Rattle.dd_store.specs.Keeping.{StoreView, IsStore, Kept}
+use Rattle.dd_store.specs.Keeping.{StoreView, IsStore, Holds}
 use Rattle.dd_store.specs.Serving.{written_back}
 use Rattle.dd_store.proofs.Marking.{dirty_below}
 
@@ -59,9 +59,9 @@ written_clean (Ok done) store now journal address is = clean_now store now journ
 written_clean (Err fault) store now journal address is = tt
 
 -- and the disk shows the content
-pub written_shows : (print : List ℕ → Fp) (store now : StoreView) (journal : JournalView) (world : World) (c s : State) (address : ℕ) → now ≡ written_back address store journal → now.journal.geo ≡ store.journal.geo
-    → address < store.journal.geo.blocks → Kept print now world c s → disk_block store.journal.geo world.disk.shown address ≡ content s.array address
-written_shows print store now journal world c s address is same below kept =
+pub written_shows : (print : List ℕ → Fp) (store now : StoreView) (journal : JournalView) (world : World) (s : State) (address : ℕ) → now ≡ written_back address store journal → now.journal.geo ≡ store.journal.geo
+    → address < store.journal.geo.blocks → Holds print now world s → disk_block store.journal.geo world.disk.shown address ≡ content s.array address
+written_shows print store now journal world s address is same below holds =
     let clean : is_dirty_at address now.table.a ≡ false = clean_now store now journal address is in
     subst (λ (g : Geometry). disk_block g world.disk.shown address ≡ content s.array address) same
-    (sym (kept.holds.means.clean address (subst (λ (g : Geometry). address < g.blocks) (sym same) below) clean))
+    (sym (holds.means.clean address (subst (λ (g : Geometry). address < g.blocks) (sym same) below) clean))

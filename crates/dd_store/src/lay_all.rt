@@ -10,7 +10,7 @@ ghost use Rattle.dd_layout.specs.Layout.{disk_need};
 ghost use Rattle.dd_record.specs.Table.{is_dirty_at};
 ghost use Rattle.dd_model.specs.State.{State};
 ghost use Rattle.dd_store.specs.Meaning.{Stands};
-ghost use Rattle.dd_store.specs.Keeping.{StoreView, IsStore, Kept};
+ghost use Rattle.dd_store.specs.Keeping.{StoreView, IsStore, Holds, Kept};
 ghost use Rattle.dd_store.specs.Laying.{MayLay, MayLayAll, laid_store, all_laid, IsPlacedRow};
 ghost use Rattle.dd_store.specs.Saving.{AreSlotsOf};
 ghost use Rattle.dd_store.specs.Serving.{Faulted, IsLayFault};
@@ -43,6 +43,10 @@ fn lay_address<R: Rig, L: Lists>(
         → Kept print store (R.world rig.old) s s → Kept print store (R.world rig.new) s s }
     ensures laid { R.tells → (print : List ℕ → Fp) (store : StoreView) (s : State) → store.journal.geo ≡ geo → store.table ≡ (L.listing lists.now).table → IsStore store → MayLay store address
         → Kept print store (R.world rig.old) s s → OnOk result (Kept print (laid_store address store) (R.world rig.new) s s) }
+    ensures holds { R.tells → (print : List ℕ → Fp) (store : StoreView) (s : State) → store.journal.geo ≡ geo → store.table ≡ (L.listing lists.now).table → IsStore store → MayLay store address
+        → Holds print store (R.world rig.old) s → Holds print store (R.world rig.new) s }
+    ensures holds_laid { R.tells → (print : List ℕ → Fp) (store : StoreView) (s : State) → store.journal.geo ≡ geo → store.table ≡ (L.listing lists.now).table → IsStore store → MayLay store address
+        → Holds print store (R.world rig.old) s → OnOk result (Holds print (laid_store address store) (R.world rig.new) s) }
     ensures unsaid { R.tells → Elapses (R.clock rig.old) (R.clock rig.new) (λ o. o.out ≡ (R.world rig.old).said) }
     ensures said { R.tells → (R.world rig.new).said ≡ (R.world rig.old).said }
     ensures fault { IfErr result IsLayFault }
@@ -78,6 +82,10 @@ pub(crate) fn lay_all<R: Rig, L: Lists>(
         → Kept print store (R.world rig.old) s s → Kept print store (R.world rig.new) s s }
     ensures laid { R.tells → (print : List ℕ → Fp) (store : StoreView) (s : State) → store.journal.geo ≡ geo → store.table ≡ (L.listing lists.now).table → IsStore store → MayLayAll store addresses.now
         → Kept print store (R.world rig.old) s s → OnOk result (Kept print (all_laid addresses.now store) (R.world rig.new) s s) }
+    ensures holds { R.tells → (print : List ℕ → Fp) (store : StoreView) (s : State) → store.journal.geo ≡ geo → store.table ≡ (L.listing lists.now).table → IsStore store → MayLayAll store addresses.now
+        → Holds print store (R.world rig.old) s → Holds print store (R.world rig.new) s }
+    ensures holds_laid { R.tells → (print : List ℕ → Fp) (store : StoreView) (s : State) → store.journal.geo ≡ geo → store.table ≡ (L.listing lists.now).table → IsStore store → MayLayAll store addresses.now
+        → Holds print store (R.world rig.old) s → OnOk result (Holds print (all_laid addresses.now store) (R.world rig.new) s) }
     ensures unsaid { R.tells → Elapses (R.clock rig.old) (R.clock rig.new) (λ o. o.out ≡ (R.world rig.old).said) }
     ensures said { R.tells → (R.world rig.new).said ≡ (R.world rig.old).said }
     ensures fault { IfErr result IsLayFault }

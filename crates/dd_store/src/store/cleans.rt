@@ -5,9 +5,9 @@ ghost use Rattle.dd_rig.specs.Counts.{Frame};
 ghost use Rattle.dd_layout.specs.Layout.{disk_block};
 ghost use Rattle.dd_model.specs.State.{State, content};
 ghost use Rattle.dd_store.specs.declared.fault.StoreFault.TheVariants.{FlashRead, DiskRead};
-ghost use Rattle.dd_store.specs.Keeping.{Kept};
+ghost use Rattle.dd_store.specs.Keeping.{Holds, Kept};
 ghost use Rattle.dd_store.specs.Rounds.{Cleans, LoadsAtMost};
-ghost use Rattle.dd_store.specs.Serving.{MayCall, Serves, StaysUp, Faulted, GrowsLittle};
+ghost use Rattle.dd_store.specs.Serving.{MayCall, Serves, HoldsThen, StaysUp, Faulted, GrowsLittle};
 
 use super::Store;
 use crate::StoreFault;
@@ -25,8 +25,10 @@ impl<F: Fingerprint, L: Lists> Store<F, L> {
         requires { MayCall self.old.store (R.device_size rig.old) }
         ensures serves { R.tells → (c s : State) → Kept (F.printed self.old.print) self.old.store (R.world rig.old) c s
             → Serves (F.printed self.old.print) result (R.clock rig.old) (R.clock rig.new) self.new.store (R.world rig.new) c s s }
-        ensures shows { R.tells → (c s : State) → Kept (F.printed self.old.print) self.old.store (R.world rig.old) c s
+        ensures shows { R.tells → (s : State) → Holds (F.printed self.old.print) self.old.store (R.world rig.old) s
             → OnOk result ((address : ℕ) → address < self.old.store.journal.geo.blocks → disk_block self.old.store.journal.geo (R.world rig.new).disk.shown address ≡ content s.array address) }
+        ensures holds { R.tells → (s : State) → Holds (F.printed self.old.print) self.old.store (R.world rig.old) s
+            → HoldsThen (F.printed self.old.print) result s s self.new.store (R.world rig.new) }
         ensures unsaid { R.tells → Elapses (R.clock rig.old) (R.clock rig.new) (λ o. o.out ≡ (R.world rig.old).said) }
         ensures said { R.tells → (R.world rig.new).said ≡ (R.world rig.old).said }
         ensures none { OnOk result (self.new.store.dirty ≡ []) }

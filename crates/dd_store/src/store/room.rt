@@ -5,9 +5,9 @@ ghost use Rattle.dd_rig.specs.Counts.{Frame};
 ghost use Rattle.dd_record.specs.Table.{is_dirty_at};
 ghost use Rattle.dd_model.specs.State.{State};
 ghost use Rattle.dd_store.specs.declared.fault.StoreFault.TheVariants.{FlashRead, DiskRead};
-ghost use Rattle.dd_store.specs.Keeping.{Kept};
+ghost use Rattle.dd_store.specs.Keeping.{Holds, Kept};
 ghost use Rattle.dd_store.specs.Rounds.{Cleans, LoadsAtMost, HasRoom};
-ghost use Rattle.dd_store.specs.Serving.{unlaid, IsReady, MayCall, Serves, StaysUp, Faulted};
+ghost use Rattle.dd_store.specs.Serving.{unlaid, IsReady, MayCall, Serves, HoldsThen, StaysUp, Faulted};
 
 use super::Store;
 use crate::StoreFault;
@@ -27,6 +27,8 @@ impl<F: Fingerprint, L: Lists> Store<F, L> {
         requires { MayCall self.old.store (R.device_size rig.old) }
         ensures serves { R.tells → (c s : State) → Kept (F.printed self.old.print) self.old.store (R.world rig.old) c s
             → Serves (F.printed self.old.print) result (R.clock rig.old) (R.clock rig.new) self.new.store (R.world rig.new) c s s }
+        ensures holds { R.tells → (s : State) → Holds (F.printed self.old.print) self.old.store (R.world rig.old) s
+            → HoldsThen (F.printed self.old.print) result s s self.new.store (R.world rig.new) }
         ensures unsaid { R.tells → Elapses (R.clock rig.old) (R.clock rig.new) (λ o. o.out ≡ (R.world rig.old).said) }
         ensures said { R.tells → (R.world rig.new).said ≡ (R.world rig.old).said }
         ensures room { OnOk result (HasRoom address want self.new.store) }
@@ -67,6 +69,8 @@ impl<F: Fingerprint, L: Lists> Store<F, L> {
         requires epoch { self.old.store.journal.epoch + length self.old.store.dirty < 2 ^ 64 - 1 }
         ensures serves { R.tells → (c s : State) → Kept (F.printed self.old.print) self.old.store (R.world rig.old) c s
             → Serves (F.printed self.old.print) result (R.clock rig.old) (R.clock rig.new) self.new.store (R.world rig.new) c s s }
+        ensures holds { R.tells → (s : State) → Holds (F.printed self.old.print) self.old.store (R.world rig.old) s
+            → HoldsThen (F.printed self.old.print) result s s self.new.store (R.world rig.new) }
         ensures unsaid { R.tells → Elapses (R.clock rig.old) (R.clock rig.new) (λ o. o.out ≡ (R.world rig.old).said) }
         ensures said { R.tells → (R.world rig.new).said ≡ (R.world rig.old).said }
         ensures clean { OnOk result (IfSome out (λ address. is_dirty_at address self.new.store.table.a ≡ false)) }
@@ -101,6 +105,8 @@ impl<F: Fingerprint, L: Lists> Store<F, L> {
         requires epoch { self.old.store.journal.epoch + length self.old.store.dirty < 2 ^ 64 - 1 }
         ensures serves { R.tells → (c s : State) → Kept (F.printed self.old.print) self.old.store (R.world rig.old) c s
             → Serves (F.printed self.old.print) result (R.clock rig.old) (R.clock rig.new) self.new.store (R.world rig.new) c s s }
+        ensures holds { R.tells → (s : State) → Holds (F.printed self.old.print) self.old.store (R.world rig.old) s
+            → HoldsThen (F.printed self.old.print) result s s self.new.store (R.world rig.new) }
         ensures unsaid { R.tells → Elapses (R.clock rig.old) (R.clock rig.new) (λ o. o.out ≡ (R.world rig.old).said) }
         ensures said { R.tells → (R.world rig.new).said ≡ (R.world rig.old).said }
         ensures clean { OnOk result (is_dirty_at address self.new.store.table.a ≡ false) }

@@ -4,9 +4,9 @@ ghost use Rattle.dd_rig.specs.Clock.{Elapses};
 ghost use Rattle.dd_rig.specs.Counts.{Frame};
 ghost use Rattle.dd_model.specs.State.{State};
 ghost use Rattle.dd_store.specs.declared.fault.StoreFault.TheVariants.{FlashRead, DiskRead};
-ghost use Rattle.dd_store.specs.Keeping.{Kept};
+ghost use Rattle.dd_store.specs.Keeping.{Holds, Kept};
 ghost use Rattle.dd_store.specs.Rounds.{Cleans, LoadsAtMost, LaysSome, has_along};
-ghost use Rattle.dd_store.specs.Serving.{unlaid, IsReady, Serves, StaysUp, Faulted};
+ghost use Rattle.dd_store.specs.Serving.{unlaid, IsReady, Serves, HoldsThen, StaysUp, Faulted};
 
 use super::Store;
 use crate::StoreFault;
@@ -23,6 +23,8 @@ impl<F: Fingerprint, L: Lists> Store<F, L> {
         requires epoch { self.old.store.journal.epoch + length self.old.store.dirty < 2 ^ 64 - 1 }
         ensures serves { R.tells → (c s : State) → Kept (F.printed self.old.print) self.old.store (R.world rig.old) c s
             → Serves (F.printed self.old.print) result (R.clock rig.old) (R.clock rig.new) self.new.store (R.world rig.new) c s s }
+        ensures holds { R.tells → (s : State) → Holds (F.printed self.old.print) self.old.store (R.world rig.old) s
+            → HoldsThen (F.printed self.old.print) result s s self.new.store (R.world rig.new) }
         ensures unsaid { R.tells → Elapses (R.clock rig.old) (R.clock rig.new) (λ o. o.out ≡ (R.world rig.old).said) }
         ensures said { R.tells → (R.world rig.new).said ≡ (R.world rig.old).said }
         ensures none { OnOk result (has_along along self.new.store ≡ false) }
@@ -56,6 +58,8 @@ impl<F: Fingerprint, L: Lists> Store<F, L> {
         requires some { has_along along self.old.store ≡ true }
         ensures serves { R.tells → (c s : State) → Kept (F.printed self.old.print) self.old.store (R.world rig.old) c s
             → Serves (F.printed self.old.print) result (R.clock rig.old) (R.clock rig.new) self.new.store (R.world rig.new) c s s }
+        ensures holds { R.tells → (s : State) → Holds (F.printed self.old.print) self.old.store (R.world rig.old) s
+            → HoldsThen (F.printed self.old.print) result s s self.new.store (R.world rig.new) }
         ensures unsaid { R.tells → Elapses (R.clock rig.old) (R.clock rig.new) (λ o. o.out ≡ (R.world rig.old).said) }
         ensures said { R.tells → (R.world rig.new).said ≡ (R.world rig.old).said }
         ensures none { OnOk result (has_along along self.new.store ≡ false) }
@@ -90,6 +94,8 @@ impl<F: Fingerprint, L: Lists> Store<F, L> {
         requires some { has_along along self.old.store ≡ true }
         ensures serves { R.tells → (c s : State) → Kept (F.printed self.old.print) self.old.store (R.world rig.old) c s
             → Serves (F.printed self.old.print) result (R.clock rig.old) (R.clock rig.new) self.new.store (R.world rig.new) c s s }
+        ensures holds { R.tells → (s : State) → Holds (F.printed self.old.print) self.old.store (R.world rig.old) s
+            → HoldsThen (F.printed self.old.print) result s s self.new.store (R.world rig.new) }
         ensures unsaid { R.tells → Elapses (R.clock rig.old) (R.clock rig.new) (λ o. o.out ≡ (R.world rig.old).said) }
         ensures said { R.tells → (R.world rig.new).said ≡ (R.world rig.old).said }
         ensures rows { OnOk result (Cleans self.old.store self.new.store) }
@@ -130,6 +136,8 @@ impl<F: Fingerprint, L: Lists> Store<F, L> {
         requires some { has_along along self.old.store ≡ true }
         ensures serves { R.tells → (c s : State) → Kept (F.printed self.old.print) self.old.store (R.world rig.old) c s
             → Serves (F.printed self.old.print) result (R.clock rig.old) (R.clock rig.new) self.new.store (R.world rig.new) c s s }
+        ensures holds { R.tells → (s : State) → Holds (F.printed self.old.print) self.old.store (R.world rig.old) s
+            → HoldsThen (F.printed self.old.print) result s s self.new.store (R.world rig.new) }
         ensures unsaid { R.tells → Elapses (R.clock rig.old) (R.clock rig.new) (λ o. o.out ≡ (R.world rig.old).said) }
         ensures said { R.tells → (R.world rig.new).said ≡ (R.world rig.old).said }
         ensures store { LaysSome result self.old.store self.new.store }

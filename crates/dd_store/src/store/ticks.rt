@@ -1,5 +1,5 @@
 // One dirty address is written back.
-ghost use Rattle.std.specs.Prelude.{◌≡◌, ◌≢◌, ◌+◌, ◌-◌, ◌*◌, ◌^◌, ◌<◌, ◌≤◌, [], ◌∷◌, length, true, Ok, None, IfOk, IfSome, IfErr, OnOk};
+ghost use Rattle.std.specs.Prelude.{◌≡◌, ◌≢◌, ◌+◌, ◌-◌, ◌^◌, ◌<◌, ◌≤◌, [], ◌∷◌, length, true, Ok, None, IfOk, IfSome, IfErr, OnOk};
 ghost use Rattle.dd_rig.specs.Clock.{Elapses};
 ghost use Rattle.dd_rig.specs.Counts.{Frame, CalledAtMost, up_to};
 ghost use Rattle.dd_layout.specs.Layout.{disk_block};
@@ -7,10 +7,10 @@ ghost use Rattle.dd_record.specs.Table.{is_dirty_at};
 ghost use Rattle.dd_model.specs.State.{State, content};
 ghost use Rattle.dd_model.specs.Listing.{next_of};
 ghost use Rattle.dd_store.specs.declared.fault.StoreFault.TheVariants.{FlashRead, DiskRead};
-ghost use Rattle.dd_store.specs.Keeping.{Kept};
+ghost use Rattle.dd_store.specs.Keeping.{Holds, Kept};
 ghost use Rattle.dd_store.specs.Committing.{committed_store};
 ghost use Rattle.dd_store.specs.Rounds.{Cleans, LoadsAtMost};
-ghost use Rattle.dd_store.specs.Serving.{written_back, unlaid, IsReady, MayCall, Serves, StaysUp, Faulted, GrowsLittle};
+ghost use Rattle.dd_store.specs.Serving.{written_back, unlaid, IsReady, MayCall, Serves, HoldsThen, StaysUp, Faulted, GrowsLittle};
 
 use super::Store;
 use crate::StoreFault;
@@ -26,8 +26,10 @@ impl<F: Fingerprint, L: Lists> Store<F, L> {
         requires { MayCall self.old.store (R.device_size rig.old) }
         ensures serves { R.tells → (c s : State) → Kept (F.printed self.old.print) self.old.store (R.world rig.old) c s
             → Serves (F.printed self.old.print) result (R.clock rig.old) (R.clock rig.new) self.new.store (R.world rig.new) c s s }
-        ensures shows { R.tells → (c s : State) → Kept (F.printed self.old.print) self.old.store (R.world rig.old) c s
+        ensures shows { R.tells → (s : State) → Holds (F.printed self.old.print) self.old.store (R.world rig.old) s
             → IfOk result (λ done. IfSome done (λ address. disk_block self.old.store.journal.geo (R.world rig.new).disk.shown address ≡ content s.array address)) }
+        ensures holds { R.tells → (s : State) → Holds (F.printed self.old.print) self.old.store (R.world rig.old) s
+            → HoldsThen (F.printed self.old.print) result s s self.new.store (R.world rig.new) }
         ensures unsaid { R.tells → Elapses (R.clock rig.old) (R.clock rig.new) (λ o. o.out ≡ (R.world rig.old).said) }
         ensures said { R.tells → (R.world rig.new).said ≡ (R.world rig.old).said }
         ensures oldest { IfOk result (λ done. done ≡ next_of None self.old.store.dirty) }
@@ -69,6 +71,8 @@ impl<F: Fingerprint, L: Lists> Store<F, L> {
         requires dirty { is_dirty_at address self.old.store.table.a ≡ true }
         ensures serves { R.tells → (c s : State) → Kept (F.printed self.old.print) self.old.store (R.world rig.old) c s
             → Serves (F.printed self.old.print) result (R.clock rig.old) (R.clock rig.new) self.new.store (R.world rig.new) c s s }
+        ensures holds { R.tells → (s : State) → Holds (F.printed self.old.print) self.old.store (R.world rig.old) s
+            → HoldsThen (F.printed self.old.print) result s s self.new.store (R.world rig.new) }
         ensures unsaid { R.tells → Elapses (R.clock rig.old) (R.clock rig.new) (λ o. o.out ≡ (R.world rig.old).said) }
         ensures said { R.tells → (R.world rig.new).said ≡ (R.world rig.old).said }
         ensures store { OnOk result (self.new.store ≡ written_back address self.old.store self.new.store.journal) }

@@ -1,9 +1,9 @@
-use Rattle.std.proofs.Common.{◌≡◌, ℕ, suc, ◌+◌, ◌<◌, List, length, take, ◌∙◌, subst, arith}
+use Rattle.std.proofs.Common.{◌≡◌, ℕ, suc, ◌+◌, ◌<◌, List, length, take, ◌∙◌, ap, subst, arith}
 use Rattle.dd_rig.proofs.Moments.{goes_on}
 use Rattle.dd_rig.proofs.Falling.{frame_trans}
-use Rattle.dd_store.specs.Keeping.{Kept}
+use Rattle.dd_store.specs.Keeping.{Holds, Kept}
 use Rattle.dd_store.specs.Laying.{all_laid}
-use Rattle.dd_store.proofs.LayingAll.{laid_first_is, may_next, laid_more, laid_lost, whole}
+use Rattle.dd_store.proofs.LayingAll.{laid_first_is, may_next, laid_more, laid_lost, holds_lost, taken_next, whole}
 use Rattle.dd_store.proofs.lay_all.lay_all.Goals as goal
 
 pub returns-in-Err-clause-crash : goal.returns-in-Err-clause-crash
@@ -41,6 +41,9 @@ loop-address-preserved g c =
           subst (λ (n : ℕ). Kept print (all_laid (take n all) store) (g.R.Rig.world c.lay_address.new.rig) s s) next
           (laid_more store all is may print (g.R.Rig.world c.lay_address.new.rig) s i lt
           (c.in-Ok.ensures.laid told print (all_laid (take i all) store) s geo same (laid_first_is store all is may i) (may_next store all is may i lt) (inv.laid told print store s geo same is may kept)));
+      holds = λ told print store s geo same is may held.
+          subst (λ (ns : List ℕ). Holds print (all_laid ns store) (g.R.Rig.world c.lay_address.new.rig) s) (taken_next all i lt ∙ ap (λ n. take n all) next)
+          (c.in-Ok.ensures.holds_laid told print (all_laid (take i all) store) s geo same (laid_first_is store all is may i) (may_next store all is may i lt) (inv.holds told print store s geo same is may held));
       unsaid = λ told. goes_on (inv.unsaid told) (c.lay_address.ensures.unsaid told) (λ o out. out ∙ inv.said told);
       said = λ told. c.lay_address.ensures.said told ∙ inv.said told;
       reads = omega (arith, inv.reads, c.lay_address.ensures.calls.1.0);
@@ -58,3 +61,21 @@ returns-clause-laid g c = λ told print store s geo same is may kept.
     let all = c.args.addresses.now in
     let end : c.loop-address.address-index ≡ length all = omega arith in
     subst (λ (ns : List ℕ). Kept print (all_laid ns store) (g.R.Rig.world c.loop-address.rig) s s) (whole all c.loop-address.address-index end) (c.loop-address.invariant.laid told print store s geo same is may kept)
+
+pub returns-in-Err-clause-holds : goal.returns-in-Err-clause-holds
+returns-in-Err-clause-holds g c = λ told print store s geo same is may held.
+    let i = c.loop-address.address-index in
+    let all = c.args.addresses.now in
+    let lt : i < length all = omega arith in
+    holds_lost store all may print (g.R.Rig.world c.lay_address.new.rig) s (take i all)
+    (c.lay_address.ensures.holds told print (all_laid (take i all) store) s geo same (laid_first_is store all is may i) (may_next store all is may i lt) (c.loop-address.invariant.holds told print store s geo same is may held))
+
+pub returns-clause-holds : goal.returns-clause-holds
+returns-clause-holds g c = λ told print store s geo same is may held.
+    holds_lost store c.args.addresses.now may print (g.R.Rig.world c.loop-address.rig) s _ (c.loop-address.invariant.holds told print store s geo same is may held)
+
+pub returns-clause-holds_laid : goal.returns-clause-holds_laid
+returns-clause-holds_laid g c = λ told print store s geo same is may held.
+    let all = c.args.addresses.now in
+    let end : c.loop-address.address-index ≡ length all = omega arith in
+    subst (λ (ns : List ℕ). Holds print (all_laid ns store) (g.R.Rig.world c.loop-address.rig) s) (whole all c.loop-address.address-index end) (c.loop-address.invariant.holds told print store s geo same is may held)

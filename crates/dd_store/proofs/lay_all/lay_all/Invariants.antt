@@ -4,7 +4,7 @@ use Rattle.dd_rig.specs.Clock.{Elapses}
 use Rattle.dd_rig.specs.Counts.{Frame}
 use Rattle.dd_model.specs.State.{State}
 use Rattle.dd_store.specs.Meaning.{Stands}
-use Rattle.dd_store.specs.Keeping.{StoreView, IsStore, Kept}
+use Rattle.dd_store.specs.Keeping.{StoreView, IsStore, Holds, Kept}
 use Rattle.dd_store.specs.Laying.{MayLayAll, all_laid}
 use Rattle.dd_store.proofs.lay_all.lay_all.Given as goal
 
@@ -20,6 +20,8 @@ invariant-loop-address g l =
           → Elapses (clock l.initial.rig) (clock l.rig) (λ o. Stands print o.flash o.disk s);
       laid : g.R.Rig.tells → (print : List ℕ → Fp) (store : StoreView) (s : State) → store.journal.geo ≡ l.geo → store.table ≡ table → IsStore store → MayLayAll store l.addresses → Kept print store (world l.initial.rig) s s
           → Kept print (all_laid (take l.address-index l.addresses) store) (world l.rig) s s;
+      holds : g.R.Rig.tells → (print : List ℕ → Fp) (store : StoreView) (s : State) → store.journal.geo ≡ l.geo → store.table ≡ table → IsStore store → MayLayAll store l.addresses → Holds print store (world l.initial.rig) s
+          → Holds print (all_laid (take l.address-index l.addresses) store) (world l.rig) s;
       unsaid : g.R.Rig.tells → Elapses (clock l.initial.rig) (clock l.rig) (λ o. o.out ≡ (world l.initial.rig).said);
       said : g.R.Rig.tells → (world l.rig).said ≡ (world l.initial.rig).said;
       reads : (counts l.rig).disk.reads ≤ (counts l.initial.rig).disk.reads;

@@ -17,12 +17,12 @@ pub returns-clause-none : goal.returns-clause-none
 returns-clause-none g c = none_left c.rounds.result c.rounds.new.self.store c.rounds.ensures.none
 
 pub returns-clause-shows : goal.returns-clause-shows
-returns-clause-shows g c = λ told was_it s kept.
+returns-clause-shows g c = λ told s holds.
     let i = c.self.inside in
     let was : StoreView = store_of i.up i.journal (g.L.Lists.listing i.lists) i.count i.pending.items i.slots.uses i.laid.items in
     let is : IsStore was = c.self.invariant.7 (ap (λ (v : StoreOf g.row.F.Denot). v.store.is_up) c.self.view_is ∙ c.requires.up) in
-    clean_shows (g.F.Fingerprint.printed c.args.self.now.print) c.rounds.result c.args.self.now.store c.rounds.new.self.store (g.R.Rig.clock c.args.rig.now) (g.R.Rig.clock c.rounds.new.rig) (g.R.Rig.world c.rounds.new.rig) was_it s
-    (subst (λ (v : StoreOf g.row.F.Denot). IsStore v.store) c.self.view_is is) c.rounds.ensures.geometry c.rounds.ensures.rows (none_left c.rounds.result c.rounds.new.self.store c.rounds.ensures.none) (c.rounds.ensures.serves told was_it s kept)
+    clean_shows (g.F.Fingerprint.printed c.args.self.now.print) c.rounds.result c.args.self.now.store c.rounds.new.self.store (g.R.Rig.world c.rounds.new.rig) s
+    (subst (λ (v : StoreOf g.row.F.Denot). IsStore v.store) c.self.view_is is) c.rounds.ensures.geometry c.rounds.ensures.rows (none_left c.rounds.result c.rounds.new.self.store c.rounds.ensures.none) (c.rounds.ensures.holds told s holds)
 
 pub returns-clause-idle : goal.returns-clause-idle
 returns-clause-idle g c = λ none.

@@ -5,6 +5,7 @@ use Rattle.dd_store.specs.Keeping.{StoreView, IsStore}
 use Rattle.dd_store.specs.Referring.{listing_in}
 use Rattle.dd_store.specs.Serving.{StoreOf, store_of, unlaid}
 use Rattle.dd_store.proofs.Cleaning.{dirty_few, cleans_on, cleans_failed}
+use Rattle.dd_store.proofs.Holding.{holds_next}
 use Rattle.dd_store.proofs.Known.{listing_same}
 use Rattle.dd_store.proofs.RoomBehind.{room_on, room_without, room_out, room_drop}
 use Rattle.dd_store.proofs.Serves.{serves_next}
@@ -69,3 +70,10 @@ returns-in-Some-clause-idle g c = λ room.
     ap (λ (v : StoreView). list_any (λ other. refers c.in-Some.row.slot c.args.address other) v.table.a) first.2 ∙ room_drop c.args.address c.args.want old c.victims-victims.result c.in-Some.row are room c.in-Some.is in
     let last = c.rounds.ensures.idle none in
     (last.0, last.1 ∙ first.1, last.2 ∙ ap unlaid first.2)
+
+pub returns-in-Some-clause-holds : goal.returns-in-Some-clause-holds
+returns-in-Some-clause-holds g c = λ told s holds.
+    let print = g.F.Fingerprint.printed in
+    let world = g.R.Rig.world in
+    holds_next {T = Unit {0}} (print c.args.self.now.print) (print c.clean_out.new.self.print) (ap print c.clean_out.ensures.print) c.clean_out.new.self.store c.rounds.new.self.store (world c.clean_out.new.rig) (world c.rounds.new.rig) s s c.rounds.result
+    (c.in-Ok.ensures.holds told s holds) (λ held. c.rounds.ensures.holds told s held)

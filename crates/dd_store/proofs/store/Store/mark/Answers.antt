@@ -7,7 +7,7 @@ use Rattle.dd_record.specs.declared.rec.Rec.{Rec}
 use Rattle.dd_record.specs.declared.rec.Rec.TheVariants.{Clean}
 use Rattle.dd_record.specs.Table.{is_dirty_at}
 use Rattle.dd_model.specs.Listing.{Listing}
-use Rattle.dd_store.specs.Keeping.{StoreView, IsStore, Kept}
+use Rattle.dd_store.specs.Keeping.{StoreView, IsStore, Holds, Kept}
 use Rattle.dd_store.specs.Laying.{all_marked, all_without, clean_records, marked_store}
 use Rattle.dd_store.specs.Serving.{StoreOf, store_of, HasLimits}
 use Rattle.dd_store.proofs.Cleaning.{fewer_all}
@@ -112,3 +112,19 @@ returns-in-Ok-clause-fewer g c =
     let fewer : length (all_without was.laid was.dirty) + length was.laid ≡ length was.dirty =
     fewer_all was.laid was.dirty (λ address. is_dirty_at address was.table.a) is.dirty is.laid_once (all_among (λ address. is_dirty_at address was.table.a ≡ true) was.laid is.laid) in
     omega (arith, ap (λ (v : StoreView). length v.dirty) same, fewer, ap (λ (v : StoreOf g.row.F.Denot). length v.store.laid) c.self.view_is, ap (λ (v : StoreOf g.row.F.Denot). length v.store.dirty) c.self.view_is)
+
+pub returns-in-Ok-clause-holds : goal.returns-in-Ok-clause-holds
+returns-in-Ok-clause-holds g c = λ told s holds.
+    let i = c.self.inside in
+    let was : StoreView = store_of i.up i.journal (g.L.Lists.listing i.lists) i.count i.pending.items i.slots.uses i.laid.items in
+    let is : IsStore was = c.self.invariant.7 (ap (λ (v : StoreOf g.row.F.Denot). v.store.is_up) c.self.view_is ∙ c.requires.call.up) in
+    let some : 0 < length was.laid = subst (λ (v : StoreOf g.row.F.Denot). 0 < length v.store.laid) (sym c.self.view_is) c.requires.some in
+    let none : was.pending ≡ [] = pending_none was is some in
+    let same : store_of i.up i.journal (g.L.Lists.listing c.mark_all.new.lists) i.count c.mark_all.new.pending.items i.slots.uses c.clear.new.self.items ≡ marked_store was =
+    marked_as was (g.L.Lists.listing i.lists) refl refl (g.L.Lists.listing c.mark_all.new.lists) c.mark_all.new.pending.items c.clear.new.self.items
+    (c.mark_all.ensures.lists ∙ ap (λ (ns : List ℕ). all_marked ns (g.L.Lists.listing i.lists)) c.as_slice.ensures.value)
+    (c.mark_all.ensures.pending ∙ ap (λ (recs : List Rec). recs ++ clean_records c.as_slice.result.now) none ∙ ap clean_records c.as_slice.ensures.value)
+    c.clear.ensures.items in
+    let print = g.F.Fingerprint.printed c.args.self.now.print in
+    let its : Holds print was (g.R.Rig.world c.args.rig.now) s = subst (λ (v : StoreOf g.row.F.Denot). Holds print v.store (g.R.Rig.world c.args.rig.now) s) (sym c.self.view_is) holds in
+    subst (λ (v : StoreView). Holds print v (g.R.Rig.world c.sync_laid.new.rig) s) (sym same) (c.in-Ok.ensures.holds told print was s its)

@@ -3,7 +3,7 @@ use Rattle.std.specs.Prelude.{Ok, IsTrue}
 use Rattle.dd_rig.specs.Clock.{Elapses}
 use Rattle.dd_rig.specs.Counts.{Frame}
 use Rattle.dd_model.specs.State.{State}
-use Rattle.dd_store.specs.Keeping.{Kept}
+use Rattle.dd_store.specs.Keeping.{Holds, Kept}
 use Rattle.dd_store.specs.Rounds.{Cleans, LoadsAtMost}
 use Rattle.dd_store.specs.Serving.{Serves}
 use Rattle.dd_store.proofs.store.Store.some_rounds.Given as goal
@@ -18,6 +18,7 @@ invariant-rounds g l =
     record {
       serves : g.R.Rig.tells → (c s : State) → Kept (printed l.fn.self.print) l.fn.self.store (world l.fn.rig) c s
           → Serves {T = Unit {0}} (printed l.fn.self.print) (Ok tt) (clock l.fn.rig) (clock l.rig) l.self.store (world l.rig) c s s;
+      holds : g.R.Rig.tells → (s : State) → Holds (printed l.fn.self.print) l.fn.self.store (world l.fn.rig) s → Holds (printed l.fn.self.print) l.self.store (world l.rig) s;
       unsaid : g.R.Rig.tells → Elapses (clock l.fn.rig) (clock l.rig) (λ o. o.out ≡ (world l.fn.rig).said);
       said : g.R.Rig.tells → (world l.rig).said ≡ (world l.fn.rig).said;
       rows : Cleans l.fn.self.store l.self.store;
