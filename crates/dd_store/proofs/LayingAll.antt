@@ -1,5 +1,5 @@
 -- A store that lays addresses, one after the other.
-use Rattle.std.proofs.Common.{◌≡◌, inr, ℕ, zero, suc, ◌<◌, ◌≤◌, ◌==◌, Bool, true, false, List, [], ◌∷◌, ◌++◌, length, take, get_or, refl, sym, ◌∙◌, ap, subst, arith, Some, None}
+use Rattle.std.proofs.Common.{◌≡◌, inr, ℕ, zero, suc, ◌<◌, ◌≤◌, ◌==◌, Bool, true, false, List, [], ◌∷◌, ◌++◌, length, take, get_or, refl, sym, ◌∙◌, ap, subst, arith, Some}
 use Rattle.std.specs.Prelude.{◌||◌}
 use Rattle.std.specs.List.{AllByRecursion, IsDistinct}
 use Rattle.std.proofs.lemmas.Bool.{eqb-true}
@@ -32,9 +32,6 @@ use Rattle.dd_store.proofs.Walks.{all_take, apart_take, first_dirty, first_apart
 -- the row of a dirty address is linked
 pub found_linked : (address : ℕ) (rows : List ARow) (row : ARow) → AllByRecursion IsDirtyLinked rows → is_dirty_at address rows ≡ true → a_row address rows ≡ Some row → is_link row.link ≡ true
 found_linked address rows row linked dirty found = found_row IsDirtyLinked address rows row linked found (ap is_dirty (sym found) ∙ dirty)
-
-pub never_none : (address : ℕ) (rows : List ARow) → is_dirty_at address rows ≡ true → a_row address rows ≡ None → ⊥
-never_none address rows dirty none = cc (dirty, ap is_dirty none)
 
 -- a row of the lists is the store's
 module _ (store : StoreView) (table : Table) (same : store.table ≡ table) (is : IsStore store) (address : ℕ) (row : ARow) (found : a_row address table.a ≡ Some row) where

@@ -212,10 +212,3 @@ taken_all walk taken after most so_far is few = by_left (left_of after walk) ref
         take_all (suc m) [] le = refl
         take_all (suc m) (n ∷ ns) le = ap (λ (ms : List ℕ). n ∷ ms) (take_all m ns (omega (arith, le)))
     by_left (first ∷ rest) left = absurd (cc (sym is ∙ next_left after walk ∙ ap (λ (ns : List ℕ). slice_get ns 0) left))
-
-front : (xs ys : List ℕ) → take (length xs) (xs ++ ys) ≡ xs
-front [] ys = refl
-front (x ∷ xs) ys = ap (λ (ns : List ℕ). x ∷ ns) (front xs ys)
-
-pub taken_full : (walk taken : List ℕ) (after : Option ℕ) (most : ℕ) → taken ++ left_of after walk ≡ walk → length taken ≡ most → taken ≡ take most walk
-taken_full walk taken after most so_far full = sym (front taken (left_of after walk)) ∙ ap (take (length taken)) so_far ∙ ap (λ n. take n walk) full

@@ -1,6 +1,13 @@
 use Rattle.std.proofs.Common.{◌∙◌}
+use Rattle.dd_rig.proofs.Moments.{widens}
 use Rattle.dd_store.proofs.LayingRow.{kept_read, holds_read, behind_read}
 use Rattle.dd_store.proofs.lay.lay_slot.Goals as goal
+
+pub returns-in-Err-clause-crash : goal.returns-in-Err-clause-crash
+returns-in-Err-clause-crash g c = λ told print store s same is may kept. widens (c.load.ensures.time told) (λ o never. absurd never)
+
+pub returns-in-Err-clause-kept : goal.returns-in-Err-clause-kept
+returns-in-Err-clause-kept g c = λ told print store s same is may kept. kept_read print store _ (g.R.Rig.world c.load.new.rig) s s (c.load.ensures.world told) kept
 
 pub returns-in-Err-lay_block-clause-crash : goal.returns-in-Err-lay_block-clause-crash
 returns-in-Err-lay_block-clause-crash g c = λ told print store s same is may kept.

@@ -1,9 +1,9 @@
-use Rattle.std.proofs.Common.{◌≡◌, ℕ, suc, ◌+◌, ◌<◌, List, length, take, ◌∙◌, ap, subst, arith}
-use Rattle.dd_rig.proofs.Moments.{goes_on}
-use Rattle.dd_rig.proofs.Falling.{frame_trans}
+use Rattle.std.proofs.Common.{◌≡◌, ℕ, suc, ◌+◌, ◌<◌, List, length, take, refl, ◌∙◌, ap, subst, arith}
+use Rattle.dd_rig.proofs.Moments.{starts, goes_on}
+use Rattle.dd_rig.proofs.Falling.{frame_self, frame_trans}
 use Rattle.dd_store.specs.Keeping.{Holds, Kept}
 use Rattle.dd_store.specs.Laying.{all_laid}
-use Rattle.dd_store.proofs.LayingAll.{laid_first_is, may_next, laid_more, laid_lost, holds_lost, taken_next, whole}
+use Rattle.dd_store.proofs.LayingAll.{laid_first_is, may_next, laid_none, laid_more, laid_lost, holds_lost, taken_next, whole}
 use Rattle.dd_store.proofs.lay_all.lay_all.Goals as goal
 
 pub returns-in-Err-clause-crash : goal.returns-in-Err-clause-crash
@@ -25,6 +25,21 @@ returns-in-Err-clause-kept g c = λ told print store s geo same is may kept.
     let now = all_laid (take i all) store in
     laid_lost store all is may print (g.R.Rig.world c.lay_address.new.rig) s (take i all)
     (c.lay_address.ensures.kept told print now s geo same (laid_first_is store all is may i) (may_next store all is may i lt) (inv.laid told print store s geo same is may kept))
+
+pub loop-address-init : goal.loop-address-init
+loop-address-init g c =
+    let all = c.args.addresses.now in
+    let world = g.R.Rig.world c.args.rig.now in
+    record {
+      crash = λ told print store s geo same is may kept. starts _ _;
+      laid = λ told print store s geo same is may kept. laid_none store all is may print world s kept;
+      holds = λ told print store s geo same is may held. subst (λ (ns : List ℕ). Holds print (all_laid ns store) world s) may.unlaid held;
+      unsaid = λ told. starts _ _;
+      said = λ told. refl;
+      reads = omega arith;
+      writes = omega arith;
+      frame = frame_self _ _;
+    }
 
 pub loop-address-preserved : goal.loop-address-preserved
 loop-address-preserved g c =

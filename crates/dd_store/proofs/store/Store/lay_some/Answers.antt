@@ -8,9 +8,16 @@ use Rattle.dd_store.specs.Rounds.{walk_of, has_along}
 use Rattle.dd_store.specs.Serving.{StoreOf, store_of, unlaid}
 use Rattle.dd_store.proofs.Flushing.{unlaid_is, kept_unlaid}
 use Rattle.dd_store.proofs.Holding.{holds_unlaid, holds_read_failed, holds_write_failed}
-use Rattle.dd_store.proofs.LayingAll.{gathered_dirty, gathered_few, gathered_may, gathered_some, laid_all_is}
+use Rattle.dd_store.proofs.LayingAll.{gathered_dirty, gathered_few, gathered_may, gathered_some, laid_all_is, rows_placed}
 use Rattle.dd_store.proofs.LayingOne.{one_state, lay_serves, read_fails, write_fails}
 use Rattle.dd_store.proofs.store.Store.lay_some.Goals as goal
+
+pub lay_all-requires-clause-rows : goal.lay_all-requires-clause-rows
+lay_all-requires-clause-rows g c =
+    let i = c.self.inside in
+    let was : StoreView = store_of i.up i.journal (g.L.Lists.listing i.lists) i.count i.pending.items i.slots.uses i.laid.items in
+    let is : IsStore was = c.self.invariant.7 (ap (λ (v : StoreOf g.row.F.Denot). v.store.is_up) c.self.view_is ∙ c.requires.call.up) in
+    rows_placed was i.geo c.self.invariant.0 is
 
 pub lay_all-requires-clause-dirty : goal.lay_all-requires-clause-dirty
 lay_all-requires-clause-dirty g c =
