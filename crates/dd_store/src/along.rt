@@ -5,12 +5,12 @@ ghost use Rattle.dd_store.specs.Rounds.{walk_of};
 
 use dd_model::Lists;
 
-/// Which dirty addresses a round of write-back takes, and in which order.
+// Which dirty addresses a round of write-back takes, and in which order.
 #[derive(Clone, Copy)]
-pub enum Along {
-    /// All of them, the one that became dirty longest ago first.
+pub(crate) enum Along {
+    // all of them, the one that became dirty longest ago first
     Age,
-    /// Those that are linked to a slot, but for one address.
+    // those that are linked to a slot, but for one address
     Referrers { slot: u32, skip: u32 },
 }
 

@@ -60,8 +60,8 @@ fn lay_address<R: Rig, L: Lists>(
     }
 }
 
-/// Lays the blocks of these dirty addresses, until a call fails. A crash within it leaves devices that
-/// stand for the committed state, and so does one behind it. Behind an Ok all of them are laid.
+// Lays the blocks of these dirty addresses, until a call fails. A crash within it leaves devices that
+// stand for the committed state, and so does one behind it. Behind an Ok all of them are laid.
 pub(crate) fn lay_all<R: Rig, L: Lists>(
     rig: &mut R,
     lists: &L,

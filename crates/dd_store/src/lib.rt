@@ -18,7 +18,6 @@ mod refer;
 mod store;
 mod used;
 
-pub use along::Along;
 pub use commit::commit_rows;
 pub use fault::StoreFault;
 pub use lay::{lay_block, lay_row, sync_laid};
