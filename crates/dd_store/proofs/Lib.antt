@@ -1,11 +1,14 @@
 pub mod Agreeing
 pub mod Altering
+pub mod Cleaning
 pub mod Committing
 pub mod Flushing
 pub mod Kept
 pub mod Growing
+pub mod Holding
 pub mod Known
 pub mod Laying
+pub mod LayingAll
 pub mod LayingOne
 pub mod LayingRow
 pub mod Located
@@ -16,6 +19,7 @@ pub mod Opening
 pub mod Parts
 pub mod Referred
 pub mod Referring
+pub mod RoomBehind
 pub mod Saving
 pub mod Serves
 pub mod Sole
@@ -25,3 +29,4 @@ pub mod Telling
 pub mod Ticking
 pub mod UsedSlots
 pub mod Using
+pub mod Walks

@@ -26,7 +26,7 @@ use Rattle.dd_model.proofs.Dirty.{dirty_cleaned, cleaned_ones}
 use Rattle.dd_model.proofs.RecordLaws.{shows-cleaned}
 use Rattle.dd_journal.specs.Sitting.{IsStablePart}
 use Rattle.dd_journal.proofs.Reaching.{synced_is_stable}
-use Rattle.dd_store.specs.Keeping.{StoreView, IsStore, Kept, NamesKept}
+use Rattle.dd_store.specs.Keeping.{StoreView, IsStore, Holds, Kept, NamesKept}
 use Rattle.dd_store.specs.Meaning.{sizes_of}
 use Rattle.dd_store.specs.Laying.{all_cleaned, all_without, clean_records, marked_store}
 use Rattle.dd_store.proofs.Committing.{nothing_pending}
@@ -59,7 +59,7 @@ others_dirty at (address ∷ addresses) rows none =
     others_dirty at addresses (cleaned address rows) parts.1 ∙ other_dirty at address rows parts.0
 
 -- the dirty ones are those that weren't made clean
-dirty_all : (addresses : List ℕ) (rows : List ARow) (dirty : List ℕ) → Enumerates (λ at. is_dirty_at at rows) dirty → Enumerates (λ at. is_dirty_at at (all_cleaned addresses rows)) (all_without addresses dirty)
+pub dirty_all : (addresses : List ℕ) (rows : List ARow) (dirty : List ℕ) → Enumerates (λ at. is_dirty_at at rows) dirty → Enumerates (λ at. is_dirty_at at (all_cleaned addresses rows)) (all_without addresses dirty)
 dirty_all [] rows dirty ones = ones
 dirty_all (address ∷ addresses) rows dirty ones =
     dirty_all addresses (cleaned address rows) (all_without (address ∷ []) dirty)
@@ -97,6 +97,27 @@ all_among P (n ∷ ns) h = (h n (or_first (n == n) (is_among n ns) (same_number 
 laid_dirty : (store : StoreView) → IsStore store → AllByRecursion (λ address. is_dirty_at address store.table.a ≡ true) store.laid
 laid_dirty store is = all_among (λ address. is_dirty_at address store.table.a ≡ true) store.laid is.laid
 
+module _ (print : List ℕ → Fp) (store : StoreView) (old : World) (s : State) (holds : Holds print store old s) where
+  -- the disk has the content of what was clean, and of what was laid
+  clean_now : (address : ℕ) → address < store.journal.geo.blocks → is_dirty_at address (all_cleaned store.laid store.table.a) ≡ false → content s.array address ≡ disk_block store.journal.geo old.disk.shown address
+  clean_now address below clean = by_test (is_among address store.laid) refl
+    where
+      by_test : (b : Bool) → is_among address store.laid ≡ b → content s.array address ≡ disk_block store.journal.geo old.disk.shown address
+      by_test true laid = sym (holds.laid address laid)
+      by_test false unlaid = holds.means.clean address below (sym (others_dirty address store.laid store.table.a unlaid) ∙ clean)
+
+  -- behind a sync of the disk that succeeded
+  pub holds_marked : Holds print (marked_store store) (on_device Disk make_stable old) s
+  holds_marked = record {
+    means = record {
+      array_length = holds.means.array_length;
+      array_blocks = holds.means.array_blocks;
+      lists = shows_all_cleaned print (slot_block store.journal.geo old.flash.shown) store.journal.geo store.count s store.laid store.table holds.means.lists;
+      clean = clean_now;
+    };
+    laid = λ address never. absurd (cc never);
+  }
+
 module _ (print : List ℕ → Fp) (store : StoreView) (old : World) (flash_shows : IsImage old.flash old.flash.shown) (disk_shows : IsImage old.disk old.disk.shown)
     (s : State) (is : IsStore store) (kept : Kept print store old s s) (none : store.pending ≡ []) where
   rows_are : kept.rows ≡ store.table
@@ -122,27 +143,11 @@ module _ (print : List ℕ → Fp) (store : StoreView) (old : World) (flash_show
     size = omega (arith, sure.size, disk_shows.same_length);
   }
 
-  -- the disk has the content of what was clean, and of what was laid
-  clean_now : (address : ℕ) → address < store.journal.geo.blocks → is_dirty_at address (all_cleaned store.laid store.table.a) ≡ false → content s.array address ≡ disk_block store.journal.geo old.disk.shown address
-  clean_now address below clean = by_test (is_among address store.laid) refl
-    where
-      by_test : (b : Bool) → is_among address store.laid ≡ b → content s.array address ≡ disk_block store.journal.geo old.disk.shown address
-      by_test true laid = sym (kept.holds.laid address laid)
-      by_test false unlaid = kept.holds.means.clean address below (sym (others_dirty address store.laid store.table.a unlaid) ∙ clean)
-
   -- behind a sync of the disk that succeeded
   pub kept_marked : Kept print (marked_store store) synced s s
   kept_marked =
       kept_of print (marked_store store) synced kept.rows s s sure_synced kept.up
-      (record {
-        means = record {
-          array_length = kept.holds.means.array_length;
-          array_blocks = kept.holds.means.array_blocks;
-          lists = shows_all_cleaned print (slot_block store.journal.geo old.flash.shown) store.journal.geo store.count s store.laid store.table kept.holds.means.lists;
-          clean = clean_now;
-        };
-        laid = λ address never. absurd (cc never);
-      })
+      (holds_marked print store old s kept.holds)
       (subst (λ (t : Table). replay store.journal.geo.acap store.journal.geo.bcap (clean_records store.laid) t ≡ Some (record store.table { a = all_cleaned store.laid store.table.a })) (sym rows_are)
       (replay_cleans store.journal.geo.acap store.journal.geo.bcap store.laid store.table is.laid_once (laid_dirty store is)))
       kept.slots_kept

@@ -39,7 +39,7 @@ pub pending_more : (front : List Rec) (ns : List ℕ) (i : ℕ) → i < length n
 pending_more [] ns i lt = records_more ns i lt
 pending_more (rec ∷ front) ns i lt = ap (λ (recs : List Rec). rec ∷ recs) (pending_more front ns i lt)
 
-among_at : (P : ℕ → Type 0) (ns : List ℕ) (i : ℕ) → AllByRecursion P ns → i < length ns → P (get_or ns i 0)
+pub among_at : (P : ℕ → Type 0) (ns : List ℕ) (i : ℕ) → AllByRecursion P ns → i < length ns → P (get_or ns i 0)
 among_at P [] i h lt = absurd (omega arith)
 among_at P (n ∷ ns) zero h lt = h.0
 among_at P (n ∷ ns) (suc i) h lt = among_at P ns i h.1 (omega arith)
@@ -47,7 +47,7 @@ among_at P (n ∷ ns) (suc i) h lt = among_at P ns i h.1 (omega arith)
 flip : (a b : ℕ) → (a == b) ≡ false → (b == a) ≡ false
 flip a b h = grind arith
 
-not_before : (ns : List ℕ) (i : ℕ) → IsDistinct (λ x y. x == y) ns → i < length ns → is_among (get_or ns i 0) (take i ns) ≡ false
+pub not_before : (ns : List ℕ) (i : ℕ) → IsDistinct (λ x y. x == y) ns → i < length ns → is_among (get_or ns i 0) (take i ns) ≡ false
 unfolding IsDistinct
 not_before [] i apart lt = absurd (omega arith)
 not_before (n ∷ ns) zero apart lt = refl

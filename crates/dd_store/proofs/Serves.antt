@@ -1,17 +1,18 @@
 -- Calls of a store one after the other.
-use Rattle.std.proofs.Common.{◌≡◌, ◌⊎◌, inl, inr, ⊎_elim, List, ℕ, sym, ◌∙◌, subst}
+use Rattle.std.proofs.Common.{◌≡◌, ◌⊎◌, inl, inr, ⊎_elim, List, ℕ, refl, sym, ◌∙◌, subst}
 use Rattle.std.specs.Prelude.{Result, Ok, Err}
 use Rattle.dd_block.specs.declared.print.Fp.{Fp}
 use Rattle.dd_rig.specs.Clock.{Clock, Elapses}
 use Rattle.dd_rig.specs.World.{World}
-use Rattle.dd_rig.proofs.Moments.{goes_on}
+use Rattle.dd_rig.proofs.Moments.{starts, goes_on}
 use Rattle.dd_model.specs.State.{State}
 use Rattle.dd_store.specs.declared.fault.StoreFault.{StoreFault}
 use Rattle.dd_store.specs.declared.fault.StoreFault.TheVariants.{FlashRead, DiskRead, FlashWrite, DiskWrite}
 use Rattle.dd_store.specs.Meaning.{Stands}
 use Rattle.dd_store.specs.Keeping.{StoreView, Kept}
 use Rattle.dd_store.specs.Committing.{StandForEither}
-use Rattle.dd_store.specs.Serving.{GoesOn, Leaves, Serves}
+use Rattle.dd_store.specs.Serving.{GoesOn, Leaves, Serves, unlaid}
+use Rattle.dd_store.proofs.Flushing.{kept_unlaid}
 
 module _ (print : List ℕ → Fp) (k c s : State) (one_of : (k ≡ c) ⊎ (k ≡ s)) where
   -- what stands for one of two states, of which the first is one of two others
@@ -65,3 +66,17 @@ pub serves_down : {T : Type 0} (print : List ℕ → Fp) (first last : Clock) (s
 serves_down {T} print first last store other world c s next fault is serves =
     let as_disk : Serves {T = T} print (Err DiskWrite) first last store world c s next = subst (λ (f : StoreFault). Serves {T = T} print (Err f) first last store world c s next) is serves in
     subst (λ (f : StoreFault). Serves {T = T} print (Err f) first last other world c s next) (sym is) (record { crash = as_disk.crash; leaves = as_disk.leaves })
+
+-- the same, where the second one speaks of an equal print
+pub serves_next : {T U : Type 0} (print later : List ℕ → Fp) → later ≡ print → (first middle last : Clock) (between store : StoreView) (before after : World) (c s next : State) (value : T) (result : Result U StoreFault)
+    → Serves {T = T} print (Ok value) first middle between before c s s
+    → ((k : State) → Kept later between before k s → Serves {T = U} later result middle last store after k s next) → Serves {T = U} print result first last store after c s next
+serves_next {U = U} print later same first middle last between store before after c s next value result so_far call =
+    serves_then print first middle last between store before after c s next result so_far.crash so_far.leaves
+    (λ k kept. subst (λ (p : List ℕ → Fp). Serves {T = U} p result middle last store after k s next) same (call k (subst (λ (p : List ℕ → Fp). Kept p between before k s) (sym same) kept)))
+
+-- where what is laid is forgotten, and no call is made
+pub unlaid_serves : {T : Type 0} (print : List ℕ → Fp) (clock : Clock) (store now : StoreView) (world : World) (c s : State) (value : T) → now ≡ unlaid store → Kept print store world c s → Serves {T = T} print (Ok value) clock clock now world c s s
+unlaid_serves {T} print clock store now world c s value is kept =
+    subst (λ (v : StoreView). Serves {T = T} print (Ok value) clock clock v world c s s) (sym is)
+    (record { crash = starts clock _; leaves = record { committed = c; either = inl refl; kept = kept_unlaid print store world c s kept } })

@@ -1,6 +1,6 @@
 -- The address that became dirty longest ago is written back.
 use Rattle.std.proofs.Common.{◌≡◌, ℕ, ◌<◌, ◌==◌, not, Bool, true, false, cond, List, [], ◌∷◌, refl, sym, ◌∙◌, ap, subst, arith, Some, None}
-use Rattle.std.specs.Prelude.{◌&&◌}
+use Rattle.std.specs.Prelude.{◌&&◌, Result, Ok, Err, OnOk}
 use Rattle.std.specs.List.{AllByRecursion, IsDistinct}
 use Rattle.dd_block.specs.declared.print.Fp.{Fp}
 use Rattle.dd_block.specs.declared.geometry.Geometry.{Geometry}
@@ -13,7 +13,7 @@ use Rattle.dd_model.specs.Listing.{without, next_of}
 use Rattle.dd_model.proofs.Dirty.{dirty_cleaned}
 use Rattle.dd_model.proofs.Stepping.{next_among}
 use Rattle.dd_journal.specs.Sitting.{JournalView}
-use Rattle.dd_store.specs.Keeping.{StoreView, IsStore, Kept}
+use Rattle.dd_store.specs.Keeping.{StoreView, IsStore, Holds}
 use Rattle.dd_store.specs.Serving.{written_back}
 use Rattle.dd_store.proofs.Marking.{dirty_below}
 
@@ -49,11 +49,19 @@ and_false : (b : Bool) → (b && false) ≡ false
 and_false true = refl
 and_false false = refl
 
--- behind a write-back the disk shows the content
-pub written_shows : (print : List ℕ → Fp) (store now : StoreView) (journal : JournalView) (world : World) (c s : State) (address : ℕ) → now ≡ written_back address store journal → now.journal.geo ≡ store.journal.geo
-    → address < store.journal.geo.blocks → Kept print now world c s → disk_block store.journal.geo world.disk.shown address ≡ content s.array address
-written_shows print store now journal world c s address is same below kept =
-    let clean : is_dirty_at address now.table.a ≡ false =
-    ap (λ (v : StoreView). is_dirty_at address v.table.a) is ∙ dirty_cleaned address store.table.a address ∙ ap (λ b. is_dirty_at address store.table.a && not b) (same_number address) ∙ and_false (is_dirty_at address store.table.a) in
+-- behind a write-back the address is clean
+clean_now : (store now : StoreView) (journal : JournalView) (address : ℕ) → now ≡ written_back address store journal → is_dirty_at address now.table.a ≡ false
+clean_now store now journal address is =
+    ap (λ (v : StoreView). is_dirty_at address v.table.a) is ∙ dirty_cleaned address store.table.a address ∙ ap (λ b. is_dirty_at address store.table.a && not b) (same_number address) ∙ and_false (is_dirty_at address store.table.a)
+
+pub written_clean : {T E : Type 0} (result : Result T E) (store now : StoreView) (journal : JournalView) (address : ℕ) → OnOk result (now ≡ written_back address store journal) → OnOk result (is_dirty_at address now.table.a ≡ false)
+written_clean (Ok done) store now journal address is = clean_now store now journal address is
+written_clean (Err fault) store now journal address is = tt
+
+-- and the disk shows the content
+pub written_shows : (print : List ℕ → Fp) (store now : StoreView) (journal : JournalView) (world : World) (s : State) (address : ℕ) → now ≡ written_back address store journal → now.journal.geo ≡ store.journal.geo
+    → address < store.journal.geo.blocks → Holds print now world s → disk_block store.journal.geo world.disk.shown address ≡ content s.array address
+written_shows print store now journal world s address is same below holds =
+    let clean : is_dirty_at address now.table.a ≡ false = clean_now store now journal address is in
     subst (λ (g : Geometry). disk_block g world.disk.shown address ≡ content s.array address) same
-    (sym (kept.holds.means.clean address (subst (λ (g : Geometry). address < g.blocks) (sym same) below) clean))
+    (sym (holds.means.clean address (subst (λ (g : Geometry). address < g.blocks) (sym same) below) clean))

@@ -52,22 +52,17 @@ pub record MayLayRow (store : StoreView) (row : ARow) : Type 0 where
   pub dirty : row.dirty ≡ true
   pub may : MayLay store row.address
 
--- these rows may be laid one after the other: they are dirty rows of the store and have distinct addresses, and nothing is pending or laid
-pub record MayLayAll (store : StoreView) (rows : List ARow) : Type 0 where
+-- these addresses may be laid one after the other: they are dirty and distinct, and nothing is pending or laid
+pub record MayLayAll (store : StoreView) (addresses : List ℕ) : Type 0 where
   pub none : store.pending ≡ []
   pub unlaid : store.laid ≡ []
-  pub listed : AllByRecursion (λ row. a_row row.address store.table.a ≡ Some row) rows
-  pub dirty : AllByRecursion (λ row. row.dirty ≡ true) rows
-  pub apart : IsDistinct (λ x y. x.address == y.address) rows
-  pub few : length rows ≤ store.journal.geo.group
+  pub dirty : AllByRecursion (λ address. is_dirty_at address store.table.a ≡ true) addresses
+  pub apart : IsDistinct (λ x y. x == y) addresses
+  pub few : length addresses ≤ store.journal.geo.group
 
--- the addresses of rows
-abbrev pub addresses_of : List ARow → List ℕ
-addresses_of rows = map (λ row. row.address) rows
-
--- a store that has laid these rows
-abbrev pub all_laid : List ARow → StoreView → StoreView
-all_laid rows store = record store { laid = addresses_of rows }
+-- a store that has laid these addresses
+abbrev pub all_laid : List ℕ → StoreView → StoreView
+all_laid addresses store = record store { laid = addresses }
 
 -- a row whose address is within a geometry, and whose slot, where it has one
 abbrev pub IsPlacedRow : Geometry → ARow → Type 0

@@ -17,7 +17,7 @@ use Rattle.dd_model.specs.Listing.{Listing}
 use Rattle.dd_journal.specs.Sitting.{JournalView}
 use Rattle.dd_store.specs.declared.fault.StoreFault.{StoreFault}
 use Rattle.dd_store.specs.declared.fault.StoreFault.TheVariants.{FlashRead, DiskRead, FlashWrite, DiskWrite}
-use Rattle.dd_store.specs.Keeping.{StoreView, Kept}
+use Rattle.dd_store.specs.Keeping.{StoreView, Holds, Kept}
 use Rattle.dd_store.specs.Committing.{StandForEither, AllStandForEither, committed_store}
 use Rattle.dd_store.specs.Laying.{laid_store, marked_store}
 
@@ -55,6 +55,14 @@ Leaves print (Err DiskWrite) c s next store world = AllStandForEither print c s 
 pub record Serves {T : Type 0} (print : List ℕ → Fp) (result : Result T StoreFault) (before after : Clock) (store : StoreView) (world : World) (c s next : State) : Type 0 where
   pub crash : Elapses before after (λ o. StandForEither print c s o.flash o.disk)
   pub leaves : Leaves print result c s next store world
+
+-- what the store holds behind a call, whatever is committed: after Ok the next state, and after a failed read what it held
+abbrev pub HoldsThen : {T : Type 0} → (List ℕ → Fp) → Result T StoreFault → (s next : State) → StoreView → World → Type 0
+HoldsThen print (Ok answer) s next store world = Holds print store world next
+HoldsThen print (Err FlashRead) s next store world = Holds print store world s
+HoldsThen print (Err DiskRead) s next store world = Holds print store world s
+HoldsThen print (Err FlashWrite) s next store world = ⊤
+HoldsThen print (Err DiskWrite) s next store world = ⊤
 
 -- on every rig: a call that answers a failed write or sync leaves the store down, and any other one leaves it up
 abbrev pub StaysUp : {T : Type 0} → Result T StoreFault → StoreView → Type 0

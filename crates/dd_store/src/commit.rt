@@ -9,7 +9,7 @@ ghost use Rattle.dd_layout.specs.Layout.{region_at, flash_need};
 ghost use Rattle.dd_model.specs.State.{State};
 ghost use Rattle.dd_journal.specs.Regions.{snapshot_size};
 ghost use Rattle.dd_journal.specs.Sitting.{MayCommit, regions_size};
-ghost use Rattle.dd_store.specs.Keeping.{StoreView, IsStore, Kept};
+ghost use Rattle.dd_store.specs.Keeping.{StoreView, IsStore, Holds, Kept};
 ghost use Rattle.dd_store.specs.Committing.{StandForEither, AllStandForEither, with_parts, committed_store};
 
 use dd_journal::Journal;
@@ -43,6 +43,10 @@ pub fn commit_rows<R: Rig, L: Lists>(
         → IsStore (with_parts store journal.old (L.listing lists.now).table count pending.now)
         → Kept print (with_parts store journal.old (L.listing lists.now).table count pending.now) (R.world rig.old) c s
         → OnOk result (Kept print (committed_store (with_parts store journal.old (L.listing lists.now).table count pending.now) journal.new) (R.world rig.new) s s) }
+    ensures holds { R.tells → (print : List ℕ → Fp) (store : StoreView) (s : State)
+        → IsStore (with_parts store journal.old (L.listing lists.now).table count pending.now)
+        → Holds print (with_parts store journal.old (L.listing lists.now).table count pending.now) (R.world rig.old) s
+        → OnOk result (Holds print (committed_store (with_parts store journal.old (L.listing lists.now).table count pending.now) journal.new) (R.world rig.new) s) }
     ensures unsaid { R.tells → Elapses (R.clock rig.old) (R.clock rig.new) (λ o. o.out ≡ (R.world rig.old).said) }
     ensures empty { pending.now ≡ [] → IsOk result × (rig.new ≡ rig.old) × (journal.new ≡ journal.old) }
     ensures ok { OnOk result (IsTrue journal.new.is_up × (journal.new.committed ≡ count)) }

@@ -10,7 +10,7 @@ ghost use Rattle.dd_layout.specs.Layout.{disk_need};
 ghost use Rattle.dd_record.specs.Table.{is_link};
 ghost use Rattle.dd_model.specs.State.{State, content};
 ghost use Rattle.dd_store.specs.Meaning.{Stands};
-ghost use Rattle.dd_store.specs.Keeping.{StoreView, IsStore, Kept};
+ghost use Rattle.dd_store.specs.Keeping.{StoreView, IsStore, Holds, Kept};
 ghost use Rattle.dd_store.specs.Laying.{MayLay, MayLayRow, laid_store, marked_store, IsPlacedRow};
 ghost use Rattle.dd_store.specs.Saving.{AreSlotsOf};
 ghost use Rattle.dd_store.specs.Serving.{Faulted, IsLayFault};
@@ -39,6 +39,10 @@ pub fn lay_block<R: Rig>(
         → Kept print store (R.world rig.new) s s }
     ensures laid { R.tells → (print : List ℕ → Fp) (store : StoreView) (s : State) → store.journal.geo ≡ geo → IsStore store → MayLay store address → Kept print store (R.world rig.old) s s
         → from.now ≡ content s.array address → OnOk result (Kept print (laid_store address store) (R.world rig.new) s s) }
+    ensures holds { R.tells → (print : List ℕ → Fp) (store : StoreView) (s : State) → store.journal.geo ≡ geo → IsStore store → MayLay store address → Holds print store (R.world rig.old) s
+        → Holds print store (R.world rig.new) s }
+    ensures holds_laid { R.tells → (print : List ℕ → Fp) (store : StoreView) (s : State) → store.journal.geo ≡ geo → IsStore store → MayLay store address → Holds print store (R.world rig.old) s
+        → from.now ≡ content s.array address → OnOk result (Holds print (laid_store address store) (R.world rig.new) s) }
     ensures unsaid { R.tells → Elapses (R.clock rig.old) (R.clock rig.new) (λ o. o.out ≡ (R.world rig.old).said) }
     ensures said { R.tells → (R.world rig.new).said ≡ (R.world rig.old).said }
     ensures counts { R.counts rig.new ≡ count_write Disk geo.block result (R.counts rig.old) }
@@ -54,6 +58,7 @@ pub fn sync_laid<R: Rig>(rig: &mut R) -> Result<(), Failed>
     ensures kept { R.tells → (print : List ℕ → Fp) (store : StoreView) (c s : State) → OnErr result (Kept print store (R.world rig.old) c s → Kept print store (R.world rig.new) c s) }
     ensures marked { R.tells → (print : List ℕ → Fp) (store : StoreView) (s : State) → IsStore store → store.pending ≡ [] → Kept print store (R.world rig.old) s s
         → OnOk result (Kept print (marked_store store) (R.world rig.new) s s) }
+    ensures holds { R.tells → (print : List ℕ → Fp) (store : StoreView) (s : State) → Holds print store (R.world rig.old) s → OnOk result (Holds print (marked_store store) (R.world rig.new) s) }
     ensures said { R.tells → (R.world rig.new).said ≡ (R.world rig.old).said }
     ensures counts { R.counts rig.new ≡ count_sync Disk result (R.counts rig.old) }
     ensures cause { OnErr result (Rose (R.counts rig.old).disk.failed_writes (R.counts rig.new).disk.failed_writes) }
@@ -83,6 +88,10 @@ pub fn lay_row<R: Rig>(
         → Kept print store (R.world rig.new) s s }
     ensures laid { R.tells → (print : List ℕ → Fp) (store : StoreView) (s : State) → store.journal.geo ≡ geo → IsStore store → MayLayRow store row → Kept print store (R.world rig.old) s s
         → OnOk result (Kept print (laid_store row.address store) (R.world rig.new) s s) }
+    ensures holds { R.tells → (print : List ℕ → Fp) (store : StoreView) (s : State) → store.journal.geo ≡ geo → IsStore store → MayLayRow store row → Holds print store (R.world rig.old) s
+        → Holds print store (R.world rig.new) s }
+    ensures holds_laid { R.tells → (print : List ℕ → Fp) (store : StoreView) (s : State) → store.journal.geo ≡ geo → IsStore store → MayLayRow store row → Holds print store (R.world rig.old) s
+        → OnOk result (Holds print (laid_store row.address store) (R.world rig.new) s) }
     ensures unsaid { R.tells → Elapses (R.clock rig.old) (R.clock rig.new) (λ o. o.out ≡ (R.world rig.old).said) }
     ensures said { R.tells → (R.world rig.new).said ≡ (R.world rig.old).said }
     ensures fault { IfErr result IsLayFault }
@@ -125,6 +134,10 @@ fn lay_slot<R: Rig>(
         → Kept print store (R.world rig.new) s s }
     ensures laid { R.tells → (print : List ℕ → Fp) (store : StoreView) (s : State) → store.journal.geo ≡ geo → IsStore store → MayLay store address → Kept print store (R.world rig.old) s s
         → block_in slots.now (R.world rig.old).flash.shown slot ≡ content s.array address → OnOk result (Kept print (laid_store address store) (R.world rig.new) s s) }
+    ensures holds { R.tells → (print : List ℕ → Fp) (store : StoreView) (s : State) → store.journal.geo ≡ geo → IsStore store → MayLay store address → Holds print store (R.world rig.old) s
+        → Holds print store (R.world rig.new) s }
+    ensures holds_laid { R.tells → (print : List ℕ → Fp) (store : StoreView) (s : State) → store.journal.geo ≡ geo → IsStore store → MayLay store address → Holds print store (R.world rig.old) s
+        → block_in slots.now (R.world rig.old).flash.shown slot ≡ content s.array address → OnOk result (Holds print (laid_store address store) (R.world rig.new) s) }
     ensures unsaid { R.tells → Elapses (R.clock rig.old) (R.clock rig.new) (λ o. o.out ≡ (R.world rig.old).said) }
     ensures said { R.tells → (R.world rig.new).said ≡ (R.world rig.old).said }
     ensures fault { IfErr result IsLayFault }

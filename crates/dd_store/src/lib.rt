@@ -4,13 +4,14 @@
 //! of a disk stand for an array, both recency lists and a count. It reads two whole images; it knows
 //! nothing of pending records, free slots or indexes. Two devices stand for one state at most
 //! (`proofs/Sole`). `specs/Keeping` says what holds between a store and a rig from one device call
-//! to the next, and each function here carries it through one kind of call. The calls of the store
-//! are still to come.
+//! to the next, and each function here carries it through one kind of call.
 #![tactic(auto)]
 
+mod along;
 mod commit;
 mod fault;
 mod lay;
+mod lay_all;
 mod mark;
 mod place;
 mod refer;

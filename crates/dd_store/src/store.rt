@@ -9,11 +9,11 @@ ghost use Rattle.dd_journal.specs.Regions.{AreRows, snapshot_size};
 ghost use Rattle.dd_journal.specs.Sitting.{Sits, IsStable};
 ghost use Rattle.dd_store.specs.Meaning.{Means};
 ghost use Rattle.dd_store.specs.declared.fault.StoreFault.TheVariants.{FlashRead, DiskRead, FlashWrite, DiskWrite};
-ghost use Rattle.dd_store.specs.Keeping.{IsStore, Kept};
+ghost use Rattle.dd_store.specs.Keeping.{IsStore, Holds, Kept};
 ghost use Rattle.dd_store.specs.Committing.{committed_store};
 ghost use Rattle.dd_store.specs.Laying.{MayLay, marked_store};
 ghost use Rattle.dd_store.specs.Saving.{AreUsesOf};
-ghost use Rattle.dd_store.specs.Serving.{store_of, HasLimits, IsReady, MayCall, Serves, StaysUp, Faulted, GrowsLittle, LaysOn, unlaid, downed};
+ghost use Rattle.dd_store.specs.Serving.{store_of, HasLimits, IsReady, MayCall, Serves, HoldsThen, StaysUp, Faulted, GrowsLittle, LaysOn, unlaid, downed};
 
 use crate::StoreFault;
 use crate::commit::commit_rows;
@@ -31,7 +31,10 @@ use std::alloc::{AllocError, Global};
 use std::marker::Model;
 
 mod accessors;
+mod cleans;
 mod refers;
+mod room;
+mod rounds;
 mod ticks;
 
 /// A cache over two devices: the array and both recency lists, of which what is committed survives a
@@ -67,7 +70,7 @@ impl<F: Fingerprint, L: Lists> Model for Store<F, L> {
 
     ghost invariant = { λ s. (s.journal.geo ≡ s.geo) × (length s.block.items ≡ s.geo.block) × (s.geo.group ≤ vec_capacity s.laid) × (s.geo.group ≤ vec_capacity s.pending)
         × AreSlotsOf s.geo s.slots × HasLimits s.geo (L.listing s.lists) × (length s.laid.items ≤ s.geo.group)
-        × (s.up ≡ true → IsStore (store_of s.up s.journal (L.listing s.lists) s.count s.pending.items s.slots.uses s.laid.items)) };
+        × (s.up ≡ true → IsStore (store_of s.up s.journal (L.listing s.lists) s.count s.pending.items s.slots.uses s.laid.items)) × (length s.pending.items ≤ s.geo.group) };
 }
 
 impl<F: Fingerprint, L: Lists> Store<F, L> {
@@ -128,6 +131,8 @@ impl<F: Fingerprint, L: Lists> Store<F, L> {
             → Serves (F.printed self.old.print) result (R.clock rig.old) (R.clock rig.new) self.new.store (R.world rig.new) c s s }
         ensures committed { R.tells → (c s : State) → Kept (F.printed self.old.print) self.old.store (R.world rig.old) c s
             → OnOk result (Kept (F.printed self.old.print) self.new.store (R.world rig.new) s s) }
+        ensures holds { R.tells → (s : State) → Holds (F.printed self.old.print) self.old.store (R.world rig.old) s
+            → HoldsThen (F.printed self.old.print) result s s self.new.store (R.world rig.new) }
         ensures unsaid { R.tells → Elapses (R.clock rig.old) (R.clock rig.new) (λ o. o.out ≡ (R.world rig.old).said) }
         ensures said { R.tells → (R.world rig.new).said ≡ (R.world rig.old).said }
         ensures store { OnOk result (self.new.store ≡ committed_store (unlaid self.old.store) self.new.store.journal) }
@@ -174,6 +179,8 @@ impl<F: Fingerprint, L: Lists> Store<F, L> {
             → Serves (F.printed self.old.print) result (R.clock rig.old) (R.clock rig.new) self.new.store (R.world rig.new) c s s }
         ensures committed { R.tells → (c s : State) → Kept (F.printed self.old.print) self.old.store (R.world rig.old) c s
             → OnOk result (Kept (F.printed self.old.print) self.new.store (R.world rig.new) s s) }
+        ensures holds { R.tells → (s : State) → Holds (F.printed self.old.print) self.old.store (R.world rig.old) s
+            → HoldsThen (F.printed self.old.print) result s s self.new.store (R.world rig.new) }
         ensures unsaid { R.tells → Elapses (R.clock rig.old) (R.clock rig.new) (λ o. o.out ≡ (R.world rig.old).said) }
         ensures said { R.tells → (R.world rig.new).said ≡ (R.world rig.old).said }
         ensures count { IfOk result (λ n. (n ≡ self.old.store.count) × (self.new.store.journal.committed ≡ n)) }
@@ -205,6 +212,8 @@ impl<F: Fingerprint, L: Lists> Store<F, L> {
         requires few { length self.old.store.laid < self.old.store.journal.geo.group }
         ensures serves { R.tells → (c s : State) → Kept (F.printed self.old.print) self.old.store (R.world rig.old) c s
             → Serves (F.printed self.old.print) result (R.clock rig.old) (R.clock rig.new) self.new.store (R.world rig.new) c s s }
+        ensures holds { R.tells → (s : State) → Holds (F.printed self.old.print) self.old.store (R.world rig.old) s
+            → HoldsThen (F.printed self.old.print) result s s self.new.store (R.world rig.new) }
         ensures unsaid { R.tells → Elapses (R.clock rig.old) (R.clock rig.new) (λ o. o.out ≡ (R.world rig.old).said) }
         ensures said { R.tells → (R.world rig.new).said ≡ (R.world rig.old).said }
         ensures store { LaysOn result address self.old.store self.new.store }
@@ -243,9 +252,12 @@ impl<F: Fingerprint, L: Lists> Store<F, L> {
         requires some { 0 < length self.old.store.laid }
         ensures serves { R.tells → (c s : State) → Kept (F.printed self.old.print) self.old.store (R.world rig.old) c s
             → Serves (F.printed self.old.print) result (R.clock rig.old) (R.clock rig.new) self.new.store (R.world rig.new) c s s }
+        ensures holds { R.tells → (s : State) → Holds (F.printed self.old.print) self.old.store (R.world rig.old) s
+            → HoldsThen (F.printed self.old.print) result s s self.new.store (R.world rig.new) }
         ensures unsaid { R.tells → Elapses (R.clock rig.old) (R.clock rig.new) (λ o. o.out ≡ (R.world rig.old).said) }
         ensures said { R.tells → (R.world rig.new).said ≡ (R.world rig.old).said }
         ensures ok { OnOk result (self.new.store ≡ marked_store self.old.store) }
+        ensures fewer { OnOk result (length self.new.store.dirty + length self.old.store.laid ≡ length self.old.store.dirty) }
         ensures down { OnErr result (self.new.store ≡ downed self.old.store) }
         ensures fault { IfErr result (λ fault. fault ≡ DiskWrite) }
         ensures print { self.new.print ≡ self.old.print }

@@ -1,5 +1,6 @@
 // What a store tells without a call of a device.
 ghost use Rattle.std.specs.Prelude.{◌≡◌, length};
+ghost use Rattle.dd_slots.specs.Numbers.{is_among};
 
 use super::Store;
 use dd_block::{Fingerprint, Fp, Geometry};
@@ -39,6 +40,20 @@ impl<F: Fingerprint, L: Lists> Store<F, L> {
         ensures { result ≡ length self.now.store.laid }
     {
         self.laid.len() as u32
+    }
+
+    /// Whether an address is laid.
+    pub fn is_laid(&self, address: u32) -> bool
+        ensures { result ≡ is_among address self.now.store.laid }
+    {
+        self.laid.contains(&address)
+    }
+
+    /// How many records are pending: those since the last commit, `group` at most.
+    pub fn pending(&self) -> u32
+        ensures { result ≡ length self.now.store.pending }
+    {
+        self.pending.len() as u32
     }
 
     /// The numbers of the devices.

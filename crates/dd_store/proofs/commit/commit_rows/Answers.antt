@@ -11,6 +11,7 @@ use Rattle.dd_journal.specs.Sitting.{Leads, Sits, MayCommit, IsEither}
 use Rattle.dd_store.specs.Committing.{with_parts}
 use Rattle.dd_store.proofs.Moments.{elapses_both, unsaid_write}
 use Rattle.dd_store.proofs.Committing.{leads, while_committing, behind_commit, committed_ok}
+use Rattle.dd_store.proofs.Holding.{holds_committed, on_ok}
 use Rattle.dd_store.proofs.commit.commit_rows.Goals as goal
 
 pub commit-requires-clause-given : goal.commit-requires-clause-given
@@ -75,3 +76,14 @@ returns-clause-snapshot_calls g c = λ full.
 
 pub returns-clause-unsaid : goal.returns-clause-unsaid
 returns-clause-unsaid g c = λ told. unsaid_write Flash _ _ (g.R.Rig.world c.args.rig.now) (c.commit.ensures.time told)
+
+pub returns-clause-holds : goal.returns-clause-holds
+returns-clause-holds g c = λ told print store held is holds.
+    let here = with_parts store c.args.journal.now (g.L.Lists.listing c.args.lists.now).table c.args.count c.args.pending.now in
+    let old = g.R.Rig.world c.args.rig.now in
+    let new = g.R.Rig.world c.commit.new.rig in
+    let sized = g.met.R.Rig.has_size c.args.rig.now Flash told in
+    let sized_now = g.met.R.Rig.has_size c.commit.new.rig Flash told in
+    on_ok c.commit.result
+    (holds_committed print here old new (g.met.R.Rig.shows_image c.args.rig.now Flash told) (g.met.R.Rig.shows_image c.commit.new.rig Flash told) (sized_now ∙ ap (λ (size : Dev → ℕ). size Flash) c.commit.ensures.size ∙ sym sized)
+    held is c.commit.new.self c.commit.ensures.geometry (c.commit.ensures.outside told) holds)

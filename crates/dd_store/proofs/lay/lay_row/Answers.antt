@@ -10,7 +10,7 @@ returns-in-Slot-clause-kept g c = λ told print store s same is may kept. c.lay_
 
 pub returns-in-Slot-clause-laid : goal.returns-in-Slot-clause-laid
 returns-in-Slot-clause-laid g c = λ told print store s same is may kept.
-    c.lay_slot.ensures.laid told print store s same is may.may kept (slot_content print store (g.R.Rig.world c.args.rig.now) c.args.geo same s s kept c.args.row may c.args.slots.now _ c.requires.slots c.in-Slot.is)
+    c.lay_slot.ensures.laid told print store s same is may.may kept (slot_content print store (g.R.Rig.world c.args.rig.now) c.args.geo same s kept.holds c.args.row may c.args.slots.now _ c.requires.slots c.in-Slot.is)
 
 pub returns-in-Err-clause-crash : goal.returns-in-Err-clause-crash
 returns-in-Err-clause-crash g c = λ told print store s same is may kept. c.lay_block.ensures.crash told print store s same is may.may kept
@@ -26,5 +26,23 @@ returns-in-Ok-clause-kept g c = λ told print store s same is may kept. c.lay_bl
 
 pub returns-in-Ok-clause-laid : goal.returns-in-Ok-clause-laid
 returns-in-Ok-clause-laid g c = λ told print store s same is may kept.
-    c.in-Ok.ensures.laid told print store s same is may.may kept (zero_content print store (g.R.Rig.world c.args.rig.now) c.args.geo same s s kept c.args.row may c.fill.new.self
+    c.in-Ok.ensures.laid told print store s same is may.may kept (zero_content print store (g.R.Rig.world c.args.rig.now) c.args.geo same s kept.holds c.args.row may c.fill.new.self
+    (c.fill.ensures.after (λ y same. same) ∙ ap (λ (n : ℕ). replicate n 0) c.requires.block) (c.fill.ensures.len ∙ c.requires.block) c.in-Zero.is)
+
+pub returns-in-Slot-clause-holds : goal.returns-in-Slot-clause-holds
+returns-in-Slot-clause-holds g c = λ told print store s same is may holds. c.lay_slot.ensures.holds told print store s same is may.may holds
+
+pub returns-in-Slot-clause-holds_laid : goal.returns-in-Slot-clause-holds_laid
+returns-in-Slot-clause-holds_laid g c = λ told print store s same is may holds.
+    c.lay_slot.ensures.holds_laid told print store s same is may.may holds (slot_content print store (g.R.Rig.world c.args.rig.now) c.args.geo same s holds c.args.row may c.args.slots.now _ c.requires.slots c.in-Slot.is)
+
+pub returns-in-Err-clause-holds : goal.returns-in-Err-clause-holds
+returns-in-Err-clause-holds g c = λ told print store s same is may holds. c.lay_block.ensures.holds told print store s same is may.may holds
+
+pub returns-in-Ok-clause-holds : goal.returns-in-Ok-clause-holds
+returns-in-Ok-clause-holds g c = λ told print store s same is may holds. c.lay_block.ensures.holds told print store s same is may.may holds
+
+pub returns-in-Ok-clause-holds_laid : goal.returns-in-Ok-clause-holds_laid
+returns-in-Ok-clause-holds_laid g c = λ told print store s same is may holds.
+    c.in-Ok.ensures.holds_laid told print store s same is may.may holds (zero_content print store (g.R.Rig.world c.args.rig.now) c.args.geo same s holds c.args.row may c.fill.new.self
     (c.fill.ensures.after (λ y same. same) ∙ ap (λ (n : ℕ). replicate n 0) c.requires.block) (c.fill.ensures.len ∙ c.requires.block) c.in-Zero.is)

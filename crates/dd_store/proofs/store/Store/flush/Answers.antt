@@ -2,7 +2,8 @@ use Rattle.std.proofs.Common.{ℕ, sym, subst}
 use Rattle.std.specs.Prelude.{Result, OnOk}
 use Rattle.dd_store.specs.declared.fault.StoreFault.{StoreFault}
 use Rattle.dd_store.specs.Keeping.{Kept}
-use Rattle.dd_store.specs.Serving.{Serves}
+use Rattle.dd_store.specs.Serving.{Serves, HoldsThen}
+use Rattle.dd_store.proofs.Holding.{holds_err}
 use Rattle.dd_store.proofs.Serves.{serves_ok, serves_err}
 use Rattle.dd_store.proofs.store.Store.flush.Goals as goal
 use Rattle.dd_store.proofs.store.Store.flush.Goals.{in-Err, in-Ok}
@@ -27,4 +28,14 @@ returns-clause-committed g c = λ told was s kept.
     elim c.match-commit.branch [
       | in-Err w ↦ subst (λ (r : Result ℕ StoreFault). OnOk r (Kept print c.commit.new.self.store world s s)) (sym w.result-is) tt
       | in-Ok w ↦ subst (λ (r : Result ℕ StoreFault). OnOk r (Kept print c.commit.new.self.store world s s)) (sym w.result-is) (w.in-Ok.ensures.committed told was s kept)
+    ]
+
+pub returns-clause-holds : goal.returns-clause-holds
+returns-clause-holds g c = λ told s holds.
+    let print = g.F.Fingerprint.printed c.args.self.now.print in
+    let world = g.R.Rig.world c.commit.new.rig in
+    elim c.match-commit.branch [
+      | in-Err w ↦ subst (λ (r : Result ℕ StoreFault). HoldsThen {T = ℕ} print r s s c.commit.new.self.store world) (sym w.result-is)
+          (holds_err (Unit {0}) ℕ print w.in-Err.fault s s c.commit.new.self.store world (w.in-Err.ensures.holds told s holds))
+      | in-Ok w ↦ subst (λ (r : Result ℕ StoreFault). HoldsThen {T = ℕ} print r s s c.commit.new.self.store world) (sym w.result-is) (w.in-Ok.ensures.holds told s holds)
     ]

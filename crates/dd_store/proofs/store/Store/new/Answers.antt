@@ -26,6 +26,7 @@ invariant_of-result-2 g c =
       omega (arith, ap length c.in_ok-with_capacity-2.ensures.items),
       λ up. made_of (λ (v : StoreView). IsStore v) c.args.journal _ lists c.args.count c.in_ok-slots.slots.uses c.in_ok-with_capacity.field-0.items c.in_ok-with_capacity-2.field-0.items
           c.journal.view_is c.in_ok-with_capacity.ensures.items c.in_ok-with_capacity-2.ensures.items is,
+      omega (arith, ap length c.in_ok-with_capacity.ensures.items),
     )
 
 pub returns-clause-kept : goal.returns-clause-kept

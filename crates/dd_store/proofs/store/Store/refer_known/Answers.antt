@@ -1,4 +1,4 @@
-use Rattle.std.proofs.Common.{◌≡◌, ◌<◌, ◌+◌, length, sym, ◌∙◌, ap, subst, arith}
+use Rattle.std.proofs.Common.{◌≡◌, ◌<◌, ◌+◌, [], ◌∷◌, length, sym, ◌∙◌, ap, subst, arith, length-append}
 use Rattle.dd_block.specs.declared.geometry.Geometry.{Geometry}
 use Rattle.dd_slots.specs.Slots.{SlotsView}
 use Rattle.dd_record.specs.Spelling.{IsRec}
@@ -23,7 +23,8 @@ invariant_of-self g c =
     let i = c.self.inside in
     let lists = g.L.Lists.listing i.lists in
     let was : StoreView = store_of i.up i.journal lists i.count i.pending.items i.slots.uses i.laid.items in
-    let limits : HasLimits i.geo lists = c.self.invariant.5 in (
+    let limits : HasLimits i.geo lists = c.self.invariant.5 in
+    let room : length was.pending < was.journal.geo.group = subst (λ (v : StoreOf g.row.F.Denot). length v.store.pending < v.store.journal.geo.group) (sym c.self.view_is) c.requires.room in (
       c.self.invariant.0,
       c.self.invariant.1,
       omega (arith, c.self.invariant.2, c.clear.ensures.capacity),
@@ -39,12 +40,12 @@ invariant_of-self g c =
           subst (λ (v : StoreOf g.row.F.Denot). RecordFits v.store c.args.its (touch_by c.args.address c.args.block c.args.dirty (listing_in v.store))) (sym c.self.view_is) c.requires.fits in
           let right : IsRec was.journal.geo was.journal.version c.args.its =
           subst (λ n. IsRec was.journal.geo n c.args.its) (sym is.version) (subst (λ (v : StoreOf g.row.F.Denot). IsRec v.store.journal.geo 2 c.args.its) (sym c.self.view_is) c.requires.record) in
-          let room : length was.pending < was.journal.geo.group = subst (λ (v : StoreOf g.row.F.Denot). length v.store.pending < v.store.journal.geo.group) (sym c.self.view_is) c.requires.room in
           subst (λ (v : StoreView). IsStore v)
           (sym (known_store i.up i.journal lists i.count i.pending.items i.slots.uses i.laid.items is c.args.its c.args.address c.args.block c.args.dirty c.requires.known acap bcap
           (g.L.Lists.listing c.refer.new.lists) (i.count + 1) c.refer.new.pending.items c.refer.new.slots.uses c.clear.new.self.items
           c.refer.ensures.lists (omega arith) c.refer.ensures.pending (ap (λ (v : SlotsView). v.uses) c.refer.ensures.slots) c.clear.ensures.items))
           (referred_is was is c.args.its (touch_by c.args.address c.args.block c.args.dirty (listing_in was)) fits right room),
+      omega (arith, ap length c.refer.ensures.pending, length-append i.pending.items (c.args.its ∷ []), room, ap (λ (geo : Geometry). geo.group) c.self.invariant.0),
     )
 
 pub returns-clause-store : goal.returns-clause-store

@@ -1,28 +1,13 @@
-use Rattle.std.proofs.Common.{◌≡◌, ◌<◌, ℕ, List, ◌∷◌, length, inl, refl, sym, ◌∙◌, ap, subst, Some, None, arith}
+use Rattle.std.proofs.Common.{◌≡◌, ◌<◌, ℕ, ◌∷◌, sym, ◌∙◌, ap, subst, Some, None, arith}
 use Rattle.std.specs.Prelude.{Option}
-use Rattle.dd_rig.proofs.Moments.{starts}
 use Rattle.dd_record.specs.Table.{is_dirty_at}
 use Rattle.dd_model.specs.Listing.{next_of, without}
-use Rattle.dd_store.specs.Keeping.{StoreView, IsStore, Kept}
+use Rattle.dd_store.specs.Keeping.{StoreView, IsStore}
 use Rattle.dd_store.specs.Serving.{StoreOf, store_of}
-use Rattle.dd_store.proofs.Flushing.{unlaid_is, kept_unlaid}
-use Rattle.dd_store.proofs.Serves.{serves_ok, serves_err}
+use Rattle.dd_store.proofs.Holding.{holds_err, holds_forgotten}
+use Rattle.dd_store.proofs.Serves.{serves_ok, serves_err, unlaid_serves}
 use Rattle.dd_store.proofs.Ticking.{oldest_is_dirty, oldest_below, oldest_first, written_shows}
 use Rattle.dd_store.proofs.store.Store.tick.Goals as goal
-
-pub invariant_of-self : goal.invariant_of-self
-invariant_of-self g c =
-    let i = c.self.inside in
-    let was : StoreView = store_of i.up i.journal (g.L.Lists.listing i.lists) i.count i.pending.items i.slots.uses i.laid.items in (
-      c.self.invariant.0,
-      c.self.invariant.1,
-      omega (arith, c.self.invariant.2, c.clear.ensures.capacity),
-      c.self.invariant.3,
-      c.self.invariant.4,
-      c.self.invariant.5,
-      omega (arith, ap length c.clear.ensures.items),
-      λ up. subst (λ (ns : List ℕ). IsStore (record was { laid = ns })) (sym c.clear.ensures.items) (unlaid_is was (c.self.invariant.7 up)),
-    )
 
 pub write_back-requires-clause-below : goal.write_back-requires-clause-below
 write_back-requires-clause-below g c =
@@ -42,19 +27,7 @@ write_back-requires-clause-dirty g c =
 
 pub returns-in-None-clause-serves : goal.returns-in-None-clause-serves
 returns-in-None-clause-serves g c = λ told was_it s kept.
-    let i = c.self.inside in
-    let was : StoreView = store_of i.up i.journal (g.L.Lists.listing i.lists) i.count i.pending.items i.slots.uses i.laid.items in
-    let world = g.R.Rig.world c.args.rig.now in
-    let print = g.F.Fingerprint.printed c.args.self.now.print in
-    let its : Kept print was world was_it s = subst (λ (v : StoreOf g.row.F.Denot). Kept print v.store world was_it s) (sym c.self.view_is) kept in
-    record {
-      crash = starts (g.R.Rig.clock c.args.rig.now) _;
-      leaves = record {
-        committed = was_it;
-        either = inl refl;
-        kept = subst (λ (ns : List ℕ). Kept print (record was { laid = ns }) world was_it s) (sym c.clear.ensures.items) (kept_unlaid print was world was_it s its);
-      };
-    }
+    unlaid_serves (g.F.Fingerprint.printed c.args.self.now.print) (g.R.Rig.clock c.args.rig.now) c.args.self.now.store c.forget.new.self.store (g.R.Rig.world c.args.rig.now) was_it s None c.forget.ensures.store kept
 
 pub returns-in-Err-clause-serves : goal.returns-in-Err-clause-serves
 returns-in-Err-clause-serves g c = λ told was_it s kept.
@@ -67,14 +40,25 @@ returns-in-Ok-clause-serves g c = λ told was_it s kept.
     tt (Some c.in-Some.address) (c.in-Ok.ensures.serves told was_it s kept)
 
 pub returns-in-Ok-clause-shows : goal.returns-in-Ok-clause-shows
-returns-in-Ok-clause-shows g c = λ told was_it s kept.
+returns-in-Ok-clause-shows g c = λ told s holds.
     let i = c.self.inside in
     let was : StoreView = store_of i.up i.journal (g.L.Lists.listing i.lists) i.count i.pending.items i.slots.uses i.laid.items in
     let is : IsStore was = c.self.invariant.7 (ap (λ (v : StoreOf g.row.F.Denot). v.store.is_up) c.self.view_is ∙ c.requires.up) in
     let oldest : next_of None was.dirty ≡ Some c.in-Some.address = sym c.oldest_dirty.ensures ∙ c.in-Some.is in
     let below : c.in-Some.address < c.args.self.now.store.journal.geo.blocks = omega (arith, oldest_below was is c.in-Some.address oldest, ap (λ (v : StoreOf g.row.F.Denot). v.store.journal.geo.blocks) c.self.view_is) in
     written_shows (g.F.Fingerprint.printed c.args.self.now.print) c.args.self.now.store c.write_back.new.self.store c.write_back.new.self.store.journal (g.R.Rig.world c.write_back.new.rig)
-    (c.in-Ok.ensures.serves told was_it s kept).leaves.committed s c.in-Some.address c.in-Ok.ensures.store c.write_back.ensures.geometry below (c.in-Ok.ensures.serves told was_it s kept).leaves.kept
+    s c.in-Some.address c.in-Ok.ensures.store c.write_back.ensures.geometry below (c.in-Ok.ensures.holds told s holds)
+
+pub returns-in-None-clause-holds : goal.returns-in-None-clause-holds
+returns-in-None-clause-holds g c = λ told s holds.
+    holds_forgotten (g.F.Fingerprint.printed c.args.self.now.print) c.args.self.now.store c.forget.new.self.store (g.R.Rig.world c.args.rig.now) s c.forget.ensures.store holds
+
+pub returns-in-Err-clause-holds : goal.returns-in-Err-clause-holds
+returns-in-Err-clause-holds g c = λ told s holds.
+    holds_err (Unit {0}) (Option ℕ) (g.F.Fingerprint.printed c.args.self.now.print) c.in-Err.fault s s c.write_back.new.self.store (g.R.Rig.world c.write_back.new.rig) (c.in-Err.ensures.holds told s holds)
+
+pub returns-in-Ok-clause-holds : goal.returns-in-Ok-clause-holds
+returns-in-Ok-clause-holds g c = λ told s holds. c.in-Ok.ensures.holds told s holds
 
 pub returns-in-Ok-clause-ages : goal.returns-in-Ok-clause-ages
 returns-in-Ok-clause-ages g c =

@@ -1,8 +1,9 @@
-use Rattle.std.proofs.Common.{sym, ◌∙◌, subst}
+use Rattle.std.proofs.Common.{ap, sym, ◌∙◌, subst}
 use Rattle.std.specs.Prelude.{Ok, Err}
 use Rattle.dd_store.specs.Keeping.{Kept}
 use Rattle.dd_store.specs.Serving.{Serves}
 use Rattle.dd_store.proofs.Growing.{round_grows}
+use Rattle.dd_store.proofs.Holding.{holds_next, holds_write_failed}
 use Rattle.dd_store.proofs.Serves.{serves_then, serves_down}
 use Rattle.dd_store.proofs.store.Store.write_back.Goals as goal
 
@@ -60,3 +61,22 @@ pub returns-in-Ok-mark-clause-grows : goal.returns-in-Ok-mark-clause-grows
 returns-in-Ok-mark-clause-grows g c =
     round_grows c.args.self.now.store c.commit.new.self.store c.lay.new.self.store c.mark.new.self.store c.args.address c.mark.result c.commit.ensures.geometry c.commit.ensures.rows.0 c.commit.ensures.rows.1
     c.commit.ensures.epoch c.in-Ok-lay.ensures.store c.mark.ensures.ok c.mark.ensures.down
+
+pub returns-in-Err-lay-clause-holds : goal.returns-in-Err-lay-clause-holds
+returns-in-Err-lay-clause-holds g c = λ told s holds.
+    let print = g.F.Fingerprint.printed in
+    let world = g.R.Rig.world in
+    holds_next {T = Unit {0}} (print c.args.self.now.print) (print c.commit.new.self.print) (ap print c.commit.ensures.print) c.commit.new.self.store c.lay.new.self.store (world c.commit.new.rig) (world c.lay.new.rig) s s (Err c.in-Err-lay.fault)
+    (c.in-Ok.ensures.holds told s holds) (λ held. c.in-Err-lay.ensures.holds told s held)
+
+pub returns-in-Ok-mark-clause-holds : goal.returns-in-Ok-mark-clause-holds
+returns-in-Ok-mark-clause-holds g c = λ told s holds.
+    let print = g.F.Fingerprint.printed in
+    let world = g.R.Rig.world in
+    holds_next {T = Unit {0}} (print c.args.self.now.print) (print c.commit.new.self.print) (ap print c.commit.ensures.print) c.commit.new.self.store c.mark.new.self.store (world c.commit.new.rig) (world c.mark.new.rig) s s (Ok tt)
+    (c.in-Ok.ensures.holds told s holds)
+    (λ held. holds_next {T = Unit {0}} (print c.commit.new.self.print) (print c.lay.new.self.print) (ap print c.lay.ensures.print) c.lay.new.self.store c.mark.new.self.store (world c.lay.new.rig) (world c.mark.new.rig) s s (Ok tt)
+    (c.in-Ok-lay.ensures.holds told s held) (λ now. c.in-Ok-mark.ensures.holds told s now))
+
+pub returns-in-Err-mark-clause-holds : goal.returns-in-Err-mark-clause-holds
+returns-in-Err-mark-clause-holds g c = λ told s holds. holds_write_failed (Unit {0}) _ c.in-Err-mark.fault c.in-Err-mark.ensures.fault s s _ _

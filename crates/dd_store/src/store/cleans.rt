@@ -1,0 +1,53 @@
+// All dirty addresses are written back.
+ghost use Rattle.std.specs.Prelude.{◌≡◌, ◌≢◌, ◌<◌, ◌≤◌, ℕ, [], Ok, IfErr, OnOk};
+ghost use Rattle.dd_rig.specs.Clock.{Elapses};
+ghost use Rattle.dd_rig.specs.Counts.{Frame};
+ghost use Rattle.dd_layout.specs.Layout.{disk_block};
+ghost use Rattle.dd_model.specs.State.{State, content};
+ghost use Rattle.dd_store.specs.declared.fault.StoreFault.TheVariants.{FlashRead, DiskRead};
+ghost use Rattle.dd_store.specs.Keeping.{Holds, Kept};
+ghost use Rattle.dd_store.specs.Rounds.{Cleans, LoadsAtMost};
+ghost use Rattle.dd_store.specs.Serving.{MayCall, Serves, HoldsThen, StaysUp, Faulted, GrowsLittle};
+
+use super::Store;
+use crate::StoreFault;
+use crate::along::Along;
+use dd_block::Fingerprint;
+use dd_model::Lists;
+use dd_rig::Rig;
+
+impl<F: Fingerprint, L: Lists> Store<F, L> {
+    /// Writes each dirty address back, in rounds of at most `group` addresses, the one first that became
+    /// dirty longest ago. Behind an Ok the disk shows the array, and the records that say so of the last
+    /// round are pending. Where nothing is dirty it makes no call. After `FlashRead` the store holds what
+    /// it held, and some addresses may be clean; after `FlashWrite` and `DiskWrite` it is down.
+    pub fn clean<R: Rig>(&mut self, rig: &mut R) -> Result<(), StoreFault>
+        requires { MayCall self.old.store (R.device_size rig.old) }
+        ensures serves { R.tells → (c s : State) → Kept (F.printed self.old.print) self.old.store (R.world rig.old) c s
+            → Serves (F.printed self.old.print) result (R.clock rig.old) (R.clock rig.new) self.new.store (R.world rig.new) c s s }
+        ensures shows { R.tells → (s : State) → Holds (F.printed self.old.print) self.old.store (R.world rig.old) s
+            → OnOk result ((address : ℕ) → address < self.old.store.journal.geo.blocks → disk_block self.old.store.journal.geo (R.world rig.new).disk.shown address ≡ content s.array address) }
+        ensures holds { R.tells → (s : State) → Holds (F.printed self.old.print) self.old.store (R.world rig.old) s
+            → HoldsThen (F.printed self.old.print) result s s self.new.store (R.world rig.new) }
+        ensures unsaid { R.tells → Elapses (R.clock rig.old) (R.clock rig.new) (λ o. o.out ≡ (R.world rig.old).said) }
+        ensures said { R.tells → (R.world rig.new).said ≡ (R.world rig.old).said }
+        ensures none { OnOk result (self.new.store.dirty ≡ []) }
+        ensures rows { OnOk result (Cleans self.old.store self.new.store) }
+        ensures failed { IfErr result (λ fault. fault ≡ FlashRead → Cleans self.old.store self.new.store) }
+        ensures idle { self.old.store.dirty ≡ [] → (result ≡ Ok tt) × (rig.new ≡ rig.old) }
+        ensures fault { IfErr result (λ fault. fault ≢ DiskRead) }
+        ensures up { StaysUp result self.new.store }
+        ensures print { self.new.print ≡ self.old.print }
+        ensures forgets { self.new.store.laid ≡ [] }
+        ensures count { self.new.store.count ≡ self.old.store.count }
+        ensures geometry { self.new.store.journal.geo ≡ self.old.store.journal.geo }
+        ensures grows { GrowsLittle self.old.store self.new.store }
+        ensures reads { (R.counts rig.new).disk.reads ≤ (R.counts rig.old).disk.reads }
+        ensures loads { OnOk result (LoadsAtMost 0 self.old.store self.new.store (R.counts rig.old).disk (R.counts rig.new).disk) }
+        ensures cause { IfErr result (λ fault. Faulted fault (R.counts rig.old) (R.counts rig.new)) }
+        ensures frame { Frame (R.counts rig.old) (R.counts rig.new) (R.device_size rig.old) (R.device_size rig.new) }
+    {
+        let _ = &self.up;
+        self.rounds(rig, Along::Age)
+    }
+}
