@@ -7,7 +7,7 @@ ghost use Rattle.dd_rig.specs.Clock.{Elapses, AddsNone, MovesOn, NoneOrCounts};
 ghost use Rattle.dd_rig.specs.Counts.{Frame, Rose, count_read, count_write};
 ghost use Rattle.dd_slots.specs.declared.usage.Usage.TheVariants.{Free, Used, Waiting};
 ghost use Rattle.dd_slots.specs.Numbers.{is_among, Enumerates};
-ghost use Rattle.dd_slots.specs.Slots.{AreNew, Takes, use_of, with_use, is_free, freed, settled, count_of, slots_end, block_in, saved, SavesSome, WithinSave, LeavesOthers};
+ghost use Rattle.dd_slots.specs.Slots.{AreNew, Takes, use_of, with_use, has_free, is_free, freed, settled, count_of, slots_end, block_in, saved, SavesSome, WithinSave, LeavesOthers};
 ghost use Rattle.dd_slots.specs.Stacks.{AreStacks};
 
 use crate::Usage;
@@ -76,6 +76,13 @@ impl Slots {
                 Some(slot)
             }
         }
+    }
+
+    /// Whether a slot is free.
+    pub fn has_free(&self) -> bool
+        ensures { result ≡ has_free self.now }
+    {
+        !self.free.is_empty()
     }
 
     /// Lets a slot go. It waits until it is settled.
