@@ -1,19 +1,19 @@
 -- A reference that takes no slot: what the lists are asked, and what becomes of the slots.
-use Rattle.std.proofs.Common.{◌≡◌, ℕ, zero, suc, ◌+◌, ◌==◌, Bool, true, false, List, [], ◌∷◌, ◌++◌, refl, sym, ◌∙◌, ap, Some, None, if◌then◌else◌}
+use Rattle.std.proofs.Common.{◌≡◌, ℕ, zero, suc, ◌+◌, ◌==◌, Bool, true, false, List, [], ◌∷◌, ◌++◌, refl, sym, ◌∙◌, ap, subst, Some, None, if◌then◌else◌}
 use Rattle.std.proofs.lemmas.Bool.{eqb-true}
 use Rattle.std.specs.Prelude.{Option, IfSome, slice_get, slice_set}
 use Rattle.std.proofs.lemmas.List.{length-set}
 use Rattle.dd_block.specs.declared.geometry.Geometry.{Geometry}
 use Rattle.dd_slots.specs.declared.usage.Usage.{Usage}
 use Rattle.dd_slots.specs.declared.usage.Usage.TheVariants.{Used, Waiting}
-use Rattle.dd_slots.specs.Slots.{SlotsView}
+use Rattle.dd_slots.specs.Slots.{SlotsView, with_use}
 use Rattle.dd_record.specs.declared.row.BRow.{BRow}
 use Rattle.dd_record.specs.Table.{has_slot, b_row}
 use Rattle.dd_record.specs.declared.rec.Rec.{Rec}
 use Rattle.dd_record.specs.Replay.{Touch, cut_block, b_moved, touched}
 use Rattle.dd_model.specs.declared.given.Block.{Block}
 use Rattle.dd_model.specs.declared.given.Block.TheVariants as given
-use Rattle.dd_model.specs.Listing.{Listing, row_of, touch_by, referred, cut_of}
+use Rattle.dd_model.specs.Listing.{Listing, IsListing, row_of, touch_by, referred, cut_of}
 use Rattle.dd_model.proofs.Kept.{found_key}
 use Rattle.dd_model.proofs.Slots.{slot_get}
 use Rattle.dd_journal.specs.Sitting.{JournalView}
@@ -84,6 +84,10 @@ pub let_go_placed : (geo : Geometry) (slots : SlotsView) (cut : Option BRow) →
 let_go_placed geo slots None placed = placed
 let_go_placed geo slots (Some cut) placed = record { from = placed.from; size = placed.size; count = length-set slots.uses cut.slot Waiting ∙ placed.count }
 
+pub use_placed : (geo : Geometry) (old new : SlotsView) (slot : ℕ) (usage : Usage) → new ≡ with_use slot usage old → AreSlotsOf geo old → AreSlotsOf geo new
+use_placed geo old new slot usage is placed =
+    subst (AreSlotsOf geo) (sym is) (record { from = placed.from; size = placed.size; count = length-set old.uses slot usage ∙ placed.count })
+
 -- the store as its fields are behind the reference
 module _ (is_up : Bool) (journal : JournalView) (lists : Listing) (count : ℕ) (pending : List Rec) (uses : List Usage) (laid : List ℕ) (is : IsStore (store_of is_up journal lists count pending uses laid))
     (its : Rec) (address : ℕ) (block : Block) (dirty : Bool) (known : is_fresh_block block ≡ false) (acap : lists.acap ≡ journal.geo.acap) (bcap : lists.bcap ≡ journal.geo.bcap) where
@@ -107,3 +111,7 @@ module _ (is_up : Bool) (journal : JournalView) (lists : Listing) (count : ℕ) 
         uses = uses_is i;
         laid = ns_is i;
       }
+
+-- what the lists keep holds of the store's
+pub known_listing : (geo : Geometry) (lists : Listing) (store : StoreView) → HasLimits geo lists → store.journal.geo ≡ geo → store.table ≡ lists.table → store.dirty ≡ lists.dirty → IsListing lists → IsListing (listing_in store)
+known_listing geo lists store limits same table dirty is = subst (λ (l : Listing). IsListing l) (listing_same geo lists store limits same table dirty) is

@@ -84,7 +84,7 @@ but_used : (slot : ℕ) (cut : Option BRow) (uses : List Usage) → IfSome cut (
 but_used slot None uses was = refl
 but_used slot (Some cut) uses was = loses is_used uses cut.slot Used Waiting (used_is (slice_get uses cut.slot) was) refl slot
 
-now_used : (slot i : ℕ) (uses : List Usage) → i < length uses → is_used (slice_get (slice_set uses i Used) slot) ≡ (if slot == i then true else is_used (slice_get uses slot))
+pub now_used : (slot i : ℕ) (uses : List Usage) → i < length uses → is_used (slice_get (slice_set uses i Used) slot) ≡ (if slot == i then true else is_used (slice_get uses slot))
 now_used slot i uses lt = ap is_used (get_set uses i slot Used lt) ∙ by_test (slot == i)
   where
     by_test : (t : Bool) → is_used (if t then Some Used else slice_get uses slot) ≡ (if t then true else is_used (slice_get uses slot))
@@ -97,7 +97,7 @@ filter_short p (x ∷ xs) =
     elim (p x) as (λ t. length (cond t (x ∷ filter p xs) (filter p xs)) ≤ suc (length xs)) [ true ↦ omega (arith, filter_short p xs) | false ↦ omega (arith, filter_short p xs) ]
 
 -- what a list's cut has is used where the whole list's slots are
-cut_used : (o : Option BRow) (b : List BRow) (uses : List Usage) → IfSome o (λ row. has_slot row.slot b ≡ true) → ((slot : ℕ) → is_used (slice_get uses slot) ≡ has_slot slot b) → IfSome o (λ row. is_used (slice_get uses row.slot) ≡ true)
+pub cut_used : (o : Option BRow) (b : List BRow) (uses : List Usage) → IfSome o (λ row. has_slot row.slot b ≡ true) → ((slot : ℕ) → is_used (slice_get uses slot) ≡ has_slot slot b) → IfSome o (λ row. is_used (slice_get uses row.slot) ≡ true)
 cut_used None b uses listed same = tt
 cut_used (Some cut) b uses listed same = same cut.slot ∙ listed
 

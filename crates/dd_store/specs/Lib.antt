@@ -1,3 +1,4 @@
+pub mod Bringing
 pub mod Committing
 pub mod Keeping
 pub mod Laying

@@ -10,6 +10,7 @@
 mod along;
 mod commit;
 mod fault;
+mod kinds;
 mod lay;
 mod lay_all;
 mod mark;

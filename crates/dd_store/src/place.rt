@@ -1,5 +1,6 @@
 // A new block gets a slot.
 ghost use Rattle.std.specs.Prelude.{◌≡◌, ◌≤◌, ℕ, List, length, Some, None, IfOk, IfSome, OnErr};
+ghost use Rattle.dd_block.specs.declared.geometry.Geometry.{Geometry};
 ghost use Rattle.dd_block.specs.declared.print.Fp.{Fp};
 ghost use Rattle.dd_rig.specs.declared.device.Dev.TheVariants.{Flash};
 ghost use Rattle.dd_rig.specs.Clock.{Elapses};
@@ -8,7 +9,7 @@ ghost use Rattle.dd_slots.specs.Slots.{Takes, slots_end, block_in};
 ghost use Rattle.dd_model.specs.State.{State};
 ghost use Rattle.dd_store.specs.Meaning.{Stands};
 ghost use Rattle.dd_store.specs.Keeping.{StoreView, IsStore, Kept};
-ghost use Rattle.dd_store.specs.Saving.{HasSlots};
+ghost use Rattle.dd_store.specs.Saving.{AreSlotsOf, HasSlots};
 
 use dd_rig::{Failed, Rig};
 use dd_slots::Slots;
@@ -23,6 +24,7 @@ pub fn place_block<R: Rig>(
     requires size { length block.now ≡ slots.old.block }
     requires flash { slots_end slots.old ≤ R.device_size rig.old Flash }
     ensures slot { IfOk result (Takes slots.old slots.new) }
+    ensures placed { (geo : Geometry) → AreSlotsOf geo slots.old → AreSlotsOf geo slots.new }
     ensures none { result ≡ Ok None → rig.new ≡ rig.old }
     ensures shows { R.tells → IfOk result (λ found. IfSome found (λ slot. block_in slots.old (R.world rig.new).flash.shown slot ≡ block.now)) }
     ensures crash { R.tells → (print : List ℕ → Fp) (store : StoreView) (c s : State) → HasSlots store slots.old → IsStore store → Kept print store (R.world rig.old) c s

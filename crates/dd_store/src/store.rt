@@ -2,7 +2,7 @@
 ghost use Rattle.std.specs.Prelude.{◌≡◌, ◌⊎◌, ◌+◌, ◌-◌, ◌*◌, ◌^◌, ◌<◌, ◌≤◌, [], length, true, Ok, None, IfOk, OnOk, OnErr, IfErr, IsTrue};
 ghost use Rattle.dd_rig.specs.declared.device.Dev.TheVariants.{Flash, Disk};
 ghost use Rattle.dd_rig.specs.Clock.{Elapses};
-ghost use Rattle.dd_rig.specs.Counts.{Frame, Makes, up_to, nothing, plus, count_sync};
+ghost use Rattle.dd_rig.specs.Counts.{CalledAtMost, Frame, Makes, up_to, nothing, plus, count_sync};
 ghost use Rattle.dd_model.specs.State.{State};
 ghost use Rattle.dd_layout.specs.Layout.{flash_need, disk_need};
 ghost use Rattle.dd_journal.specs.Regions.{AreRows, snapshot_size};
@@ -31,11 +31,14 @@ use std::alloc::{AllocError, Global};
 use std::marker::Model;
 
 mod accessors;
+mod bringing;
 mod cleans;
+mod reading;
 mod refers;
 mod room;
 mod rounds;
 mod ticks;
+mod writing;
 
 /// A cache over two devices: the array and both recency lists, of which what is committed survives a
 /// crash.
@@ -144,6 +147,7 @@ impl<F: Fingerprint, L: Lists> Store<F, L> {
         ensures up { StaysUp result self.new.store }
         ensures print { self.new.print ≡ self.old.print }
         ensures forgets { self.new.store.laid ≡ [] }
+        ensures disk { CalledAtMost nothing (R.counts rig.old).disk (R.counts rig.new).disk }
         ensures calls { 48 * length self.old.store.pending + 6 ≤ self.old.store.journal.room
             → Makes (up_to 0 4 (48 * length self.old.store.pending + 6)) nothing (R.counts rig.old) (R.counts rig.new) }
         ensures snapshot_calls { self.old.store.journal.room < 48 * length self.old.store.pending + 6

@@ -1,25 +1,47 @@
-// A reference that takes no slot.
-ghost use Rattle.std.specs.Prelude.{◌≡◌, ◌<◌, ◌-◌, ◌^◌, length, false, IsTrue};
+// The step itself: rows, count, records and slots go on by one reference.
+ghost use Rattle.std.specs.Prelude.{◌≡◌, ◌⊎◌, ◌+◌, ◌<◌, ◌≤◌, ◌-◌, ◌^◌, [], length, true, false, Ok, IfOk, IfErr, OnErr, IsTrue, if◌then◌else◌};
+ghost use Rattle.dd_rig.specs.declared.device.Dev.TheVariants.{Flash as FlashDevice};
+ghost use Rattle.dd_rig.specs.Clock.{Elapses};
+ghost use Rattle.dd_rig.specs.Counts.{Frame, Makes, up_to, nothing};
+ghost use Rattle.dd_layout.specs.Layout.{flash_need};
+ghost use Rattle.dd_record.specs.declared.row.Link.TheVariants.{Lost};
 ghost use Rattle.dd_record.specs.Spelling.{IsRec};
-ghost use Rattle.dd_model.specs.Listing.{IsGiven, touch_by, cut_of};
+ghost use Rattle.dd_record.specs.Table.{link_at};
+ghost use Rattle.dd_record.specs.Replay.{touch_of, raises};
+ghost use Rattle.dd_model.specs.declared.given.Want.TheVariants.{Fresh as FreshBlock};
+ghost use Rattle.dd_model.specs.declared.kind.Kind.TheVariants.{Miss, New};
+ghost use Rattle.dd_model.specs.Listing.{IsGiven, want_of, touch_by, cut_of};
+ghost use Rattle.dd_model.specs.Reference.{reference, Tells};
+ghost use Rattle.dd_model.specs.State.{State, content, is_zero_block, is_known};
+ghost use Rattle.dd_store.specs.declared.fault.StoreFault.TheVariants.{FlashWrite};
+ghost use Rattle.dd_store.specs.Meaning.{sizes_of};
+ghost use Rattle.dd_store.specs.Keeping.{IsStore, Kept};
 ghost use Rattle.dd_store.specs.Referring.{RecordFits, referred_store, listing_in, is_fresh_block};
+ghost use Rattle.dd_store.specs.Bringing.{IsPrepared, Enters, answer_for};
+ghost use Rattle.dd_store.specs.Serving.{Serves, StaysUp, Faulted};
 
 use super::Store;
+use crate::StoreFault;
+use crate::place::place_block;
 use crate::refer::refer;
-use dd_block::Fingerprint;
+use dd_block::{Fingerprint, Fp};
 use dd_model::{Block, Cut, Lists};
-use dd_record::Rec;
+use dd_record::{BRow, Rec};
+use dd_rig::Rig;
 
 impl<F: Fingerprint, L: Lists> Store<F, L> {
-    // References an address with a listed block or with zeros, where there is room for its record.
-    fn refer_known(&mut self, its: Rec, address: u32, block: Block, dirty: bool) -> Cut
+    // References an address with a listed block or with zeros, where room was made for it.
+    pub(super) fn refer_known(&mut self, its: Rec, address: u32, block: Block, dirty: bool) -> Cut
         requires up { IsTrue self.old.store.is_up }
-        requires room { length self.old.store.pending < self.old.store.journal.geo.group }
         requires count { self.old.store.count < 2 ^ 64 - 1 }
         requires record { IsRec self.old.store.journal.geo 2 its }
         requires known { is_fresh_block block ≡ false }
         requires given { IsGiven (listing_in self.old.store) block }
-        requires fits { RecordFits self.old.store its (touch_by address block dirty (listing_in self.old.store)) }
+        requires prepared { IsPrepared address (want_of block) self.old.store }
+        requires raised { raises its ≡ true }
+        requires touches { touch_of its self.old.store.table ≡ Some (touch_by address block dirty (listing_in self.old.store)) }
+        ensures keeps { IsStore self.old.store }
+        ensures fits { RecordFits self.old.store its (touch_by address block dirty (listing_in self.old.store)) }
         ensures store { self.new.store ≡ referred_store its (touch_by address block dirty (listing_in self.old.store)) self.old.store }
         ensures cut { result ≡ cut_of (touch_by address block dirty (listing_in self.old.store)) (listing_in self.old.store) }
         ensures print { self.new.print ≡ self.old.print }
@@ -35,5 +57,72 @@ impl<F: Fingerprint, L: Lists> Store<F, L> {
             dirty,
             its,
         )
+    }
+
+    // References an address with a block that isn't listed, where room was made for it: the block is
+    // written into a free slot first.
+    pub(super) fn refer_fresh<R: Rig>(
+        &mut self,
+        rig: &mut R,
+        address: u32,
+        fp: Fp,
+        block: &[u8],
+        dirty: bool,
+    ) -> Result<Cut, StoreFault>
+        requires up { IsTrue self.old.store.is_up }
+        requires count { self.old.store.count < 2 ^ 64 - 1 }
+        requires flash { flash_need self.old.store.journal.geo ≤ R.device_size rig.old FlashDevice }
+        requires below { address < self.old.store.journal.geo.blocks }
+        requires long { length block.now ≡ self.old.store.journal.geo.block }
+        requires anew { (dirty ≡ true) ⊎ (link_at address self.old.store.table.a ≡ Lost) }
+        requires prepared { IsPrepared address FreshBlock self.old.store }
+        ensures serves { R.tells → (c s : State) → Kept (F.printed self.old.print) self.old.store (R.world rig.old) c s → fp ≡ F.printed self.old.print block.now
+            → is_zero_block block.now ≡ false → is_known block.now s.blocks ≡ false → (dirty ≡ false → block.now ≡ content s.array address)
+            → Serves (F.printed self.old.print) result (R.clock rig.old) (R.clock rig.new) self.new.store (R.world rig.new) c s (reference (sizes_of self.old.store.journal.geo) s address block.now) }
+        ensures tells { R.tells → (c s : State) → Kept (F.printed self.old.print) self.old.store (R.world rig.old) c s → fp ≡ F.printed self.old.print block.now
+            → is_zero_block block.now ≡ false → is_known block.now s.blocks ≡ false → (dirty ≡ false → block.now ≡ content s.array address)
+            → IfOk result (λ cut. Tells (F.printed self.old.print) (record { kind = if dirty then New else Miss; cut = cut }) (answer_for dirty (sizes_of self.old.store.journal.geo) s address block.now)) }
+        ensures unsaid { R.tells → Elapses (R.clock rig.old) (R.clock rig.new) (λ o. o.out ≡ (R.world rig.old).said) }
+        ensures said { R.tells → (R.world rig.new).said ≡ (R.world rig.old).said }
+        ensures rows { IfOk result (Enters address fp dirty self.old.store self.new.store) }
+        ensures down { OnErr result ((self.new.store.journal ≡ self.old.store.journal) × (self.new.store.dirty ≡ self.old.store.dirty) × (self.new.store.count ≤ self.old.store.count + 1)) }
+        ensures fault { IfErr result (λ fault. fault ≡ FlashWrite) }
+        ensures up { StaysUp result self.new.store }
+        ensures print { self.new.print ≡ self.old.print }
+        ensures forgets { self.new.store.laid ≡ [] }
+        ensures calls { Makes (up_to 0 1 self.old.store.journal.geo.block) nothing (R.counts rig.old) (R.counts rig.new) }
+        ensures cause { IfErr result (λ fault. Faulted fault (R.counts rig.old) (R.counts rig.new)) }
+        ensures frame { Frame (R.counts rig.old) (R.counts rig.new) (R.device_size rig.old) (R.device_size rig.new) }
+    {
+        self.laid.clear();
+        match place_block(&mut self.slots, rig, block) {
+            Err(_) => {
+                self.up = false;
+                Err(StoreFault::FlashWrite)
+            }
+            Ok(found) => match found {
+                None => {
+                    self.up = false;
+                    Err(StoreFault::FlashWrite)
+                }
+                Some(slot) => {
+                    self.count += 1;
+                    Ok(refer(
+                        &mut self.lists,
+                        &mut self.slots,
+                        &mut self.pending,
+                        address,
+                        Block::Fresh(BRow { slot, fp }),
+                        dirty,
+                        Rec::Store {
+                            address,
+                            slot,
+                            fp,
+                            dirty,
+                        },
+                    ))
+                }
+            },
+        }
     }
 }

@@ -3,9 +3,10 @@ use Rattle.std.proofs.lemmas.Option.{slice_get_within}
 use Rattle.dd_rig.specs.declared.device.Dev.TheVariants.{Flash, Disk}
 use Rattle.dd_rig.specs.Clock.{Elapses}
 use Rattle.dd_rig.specs.World.{World}
-use Rattle.dd_slots.specs.declared.usage.Usage.TheVariants.{Free}
+use Rattle.dd_slots.specs.declared.usage.Usage.TheVariants.{Free, Used}
 use Rattle.dd_slots.specs.Slots.{SlotsView, count_of, slot_from, block_in, saved, WithinSave, SavesSome}
 use Rattle.dd_slots.proofs.Ranges.{slot_within, saved_slot}
+use Rattle.dd_store.proofs.Known.{use_placed}
 use Rattle.dd_store.proofs.Saving.{saved_crash, saved_kept}
 use Rattle.dd_store.proofs.place.place_block.Goals as goal
 
@@ -52,3 +53,9 @@ returns-in_ok-save-in-Some-clause-kept g c = λ told print store was held has is
     saved_kept print store world (g.met.R.Rig.shows_image c.args.rig.now Flash told) (g.met.R.Rig.shows_image c.args.rig.now Disk told) was held kept is c.args.slots.now has
     (omega (arith, sized, c.requires.flash)) c.in-Some.slot c.in-Some.ensures.0 (g.R.Rig.world c.save.new.rig)
     (subst (λ (v : SlotsView). SavesSome v c.in-Some.slot world (g.R.Rig.world c.save.new.rig)) c.in-Some.ensures.1 (c.save.ensures.any told))
+
+pub returns-in_err-save-in-Some-clause-placed : goal.returns-in_err-save-in-Some-clause-placed
+returns-in_err-save-in-Some-clause-placed g c = λ geo placed. use_placed geo c.args.slots.now c.take.new.self c.in-Some.slot Used c.in-Some.ensures.1 placed
+
+pub returns-in_ok-save-in-Some-clause-placed : goal.returns-in_ok-save-in-Some-clause-placed
+returns-in_ok-save-in-Some-clause-placed g c = λ geo placed. use_placed geo c.args.slots.now c.take.new.self c.in-Some.slot Used c.in-Some.ensures.1 placed

@@ -1,0 +1,162 @@
+use Rattle.std.proofs.Common.{◌≡◌, ◌⊎◌, ◌<◌, inl, inr, length, Bool, true, false, refl, sym, ◌∙◌, ap, subst, arith, if◌then◌else◌}
+use Rattle.std.specs.Prelude.{◌||◌, IfOk, IfSome, Err}
+use Rattle.dd_block.specs.Geometry.{slot_count}
+use Rattle.dd_rig.specs.Counts.{Makes, up_to, nothing}
+use Rattle.dd_rig.specs.World.{World}
+use Rattle.dd_layout.specs.Layout.{slot_block}
+use Rattle.dd_record.specs.declared.row.Link.TheVariants.{Lost}
+use Rattle.dd_record.specs.Table.{link_at}
+use Rattle.dd_model.specs.declared.done.Done.{Done}
+use Rattle.dd_model.specs.declared.given.Block.TheVariants.{Known}
+use Rattle.dd_model.specs.declared.kind.Kind.TheVariants.{Dup, Join}
+use Rattle.dd_model.specs.Listing.{IsGiven}
+use Rattle.dd_model.specs.Confirming.{candidates}
+use Rattle.dd_model.specs.Reference.{reference, Tells}
+use Rattle.dd_model.specs.State.{is_zero_block, is_known, is_at_hand}
+use Rattle.dd_store.specs.Bringing.{FoundAs, answer_for}
+use Rattle.dd_store.specs.Keeping.{StoreView, IsStore, Kept}
+use Rattle.dd_store.specs.Meaning.{sizes_of}
+use Rattle.dd_store.specs.Referring.{listing_in}
+use Rattle.dd_store.specs.Serving.{StoreOf, Serves, store_of}
+use Rattle.dd_store.proofs.Answered.{kind_at_hand}
+use Rattle.dd_store.proofs.Brought.{kept_behind, serves_behind, serves_failed}
+use Rattle.dd_store.proofs.Costs.{references_behind, little_fresh, little_known, disk_fresh, given_below}
+use Rattle.dd_store.proofs.Located.{carries_listed, carries_zeros}
+use Rattle.dd_store.proofs.store.Store.bring.Goals as goal
+
+pub returns-then-is_zero-clause-serves : goal.returns-then-is_zero-clause-serves
+returns-then-is_zero-clause-serves g c = λ told was s kept read.
+    c.join.ensures.serves told was s kept c.args.block.now
+    (carries_zeros (g.F.Fingerprint.printed c.args.self.now.print) c.args.self.now.store (g.R.Rig.world c.args.rig.now) s kept.holds c.args.address c.requires.below c.args.block.now c.args.dirty c.requires.long read (sym c.is_zero.ensures ∙ c.if-is_zero.true))
+
+pub returns-then-is_zero-clause-tells : goal.returns-then-is_zero-clause-tells
+returns-then-is_zero-clause-tells g c = λ told was s kept read.
+    let zeros = sym c.is_zero.ensures ∙ c.if-is_zero.true in
+    let i = c.self.inside in
+    let typed : IsStore c.args.self.now.store = subst (λ (v : StoreOf g.row.F.Denot). IsStore v.store) c.self.view_is (c.self.invariant.7 (ap (λ (v : StoreOf g.row.F.Denot). v.store.is_up) c.self.view_is ∙ c.requires.call.up)) in
+    c.join.ensures.tells told was s kept c.args.block.now
+    (carries_zeros (g.F.Fingerprint.printed c.args.self.now.print) c.args.self.now.store (g.R.Rig.world c.args.rig.now) s kept.holds c.args.address c.requires.below c.args.block.now c.args.dirty c.requires.long read zeros)
+    (kind_at_hand (g.F.Fingerprint.printed c.args.self.now.print) c.args.self.now.store (g.R.Rig.world c.args.rig.now) s typed kept.holds c.args.address c.args.block.now c.args.dirty c.requires.anew read (ap (λ b. b || is_known c.args.block.now s.blocks) zeros))
+
+pub join-requires-in-Some-clause-record : goal.join-requires-in-Some-clause-record
+join-requires-in-Some-clause-record g c =
+    let i = c.self.inside in
+    let was : StoreView = store_of i.up i.journal (g.L.Lists.listing i.lists) i.count i.pending.items i.slots.uses i.laid.items in
+    let is : IsStore was = c.self.invariant.7 (ap (λ (v : StoreOf g.row.F.Denot). v.store.is_up) c.self.view_is ∙ c.requires.call.up) in
+    let old_is : IsStore c.args.self.now.store = subst (λ (v : StoreOf g.row.F.Denot). IsStore v.store) c.self.view_is is in
+    let is_given = subst (λ o. IfSome o (λ slot. IsGiven (listing_in c.args.self.now.store) (Known slot))) c.in-Some.is c.in-Ok.ensures.listed in (
+      subst (λ (v : StoreView). c.args.address < v.journal.geo.blocks) (sym c.find_block.ensures.store) c.requires.below,
+      subst (λ (v : StoreView). c.in-Some.slot < slot_count v.journal.geo) (sym c.find_block.ensures.store) (given_below c.args.self.now.store.journal.geo c.in-Some.slot c.args.self.now.store.table.b old_is.rows.b_rows is_given),
+    )
+
+pub returns-in-Err-clause-serves : goal.returns-in-Err-clause-serves
+returns-in-Err-clause-serves g c = λ told was s kept read.
+    let print = g.F.Fingerprint.printed c.args.self.now.print in
+    serves_failed Done print c.in-Err.fault (inl c.in-Err.ensures.fault) (g.R.Rig.clock c.args.rig.now) (g.R.Rig.clock c.find_block.new.rig) c.find_block.new.self.store (g.R.Rig.world c.find_block.new.rig) was s _ (c.find_block.ensures.time told)
+    (kept_behind print c.args.self.now.store c.find_block.new.self.store (g.R.Rig.world c.args.rig.now) (g.R.Rig.world c.find_block.new.rig) was s c.find_block.ensures.store (c.find_block.ensures.world told) kept)
+
+pub returns-in-None-clause-serves : goal.returns-in-None-clause-serves
+returns-in-None-clause-serves g c = λ told was s kept read.
+    let print = g.F.Fingerprint.printed c.args.self.now.print in
+    let first = g.R.Rig.clock c.args.rig.now in
+    let second = g.R.Rig.clock c.find_block.new.rig in
+    let before = g.R.Rig.world c.args.rig.now in
+    let middle = g.R.Rig.world c.find_block.new.rig in
+    let held : Kept print c.find_block.new.self.store middle was s = kept_behind print c.args.self.now.store c.find_block.new.self.store before middle was s c.find_block.ensures.store (c.find_block.ensures.world told) kept in
+    let held_too = subst (λ f. Kept (g.F.Fingerprint.printed f) c.find_block.new.self.store middle was s) (sym c.find_block.ensures.print) held in
+    let fp_is : c.print-fp.result ≡ g.F.Fingerprint.printed c.args.self.now.print c.args.block.now = c.print-fp.ensures ∙ ap (λ (v : StoreOf g.row.F.Denot). g.F.Fingerprint.printed v.print c.args.block.now) c.self.view_is in
+    let printed : c.print-fp.result ≡ g.F.Fingerprint.printed c.find_block.new.self.print c.args.block.now = fp_is ∙ ap (λ f. g.F.Fingerprint.printed f c.args.block.now) (sym c.find_block.ensures.print) in
+    let some : is_zero_block c.args.block.now ≡ false = sym c.is_zero.ensures ∙ c.if-is_zero.false in
+    let found = subst (FoundAs c.args.self.now.store.journal.geo before.flash.shown s c.args.block.now) c.in-None.is (c.in-Ok.ensures.found told print s kept.holds fp_is) in
+    subst (λ (v : StoreView). Serves print c.enter.result first (g.R.Rig.clock c.enter.new.rig) c.enter.new.self.store (g.R.Rig.world c.enter.new.rig) was s (reference (sizes_of v.journal.geo) s c.args.address c.args.block.now)) c.find_block.ensures.store
+    (serves_behind print c.enter.result (c.find_block.ensures.time told)
+    (subst (λ f. Serves (g.F.Fingerprint.printed f) c.enter.result second (g.R.Rig.clock c.enter.new.rig) c.enter.new.self.store (g.R.Rig.world c.enter.new.rig) was s (reference (sizes_of c.find_block.new.self.store.journal.geo) s c.args.address c.args.block.now)) c.find_block.ensures.print
+    (c.enter.ensures.serves told was s held_too printed some found read)))
+
+pub returns-in-None-clause-tells : goal.returns-in-None-clause-tells
+returns-in-None-clause-tells g c = λ told was s kept read.
+    let print = g.F.Fingerprint.printed c.args.self.now.print in
+    let first = g.R.Rig.clock c.args.rig.now in
+    let second = g.R.Rig.clock c.find_block.new.rig in
+    let before = g.R.Rig.world c.args.rig.now in
+    let middle = g.R.Rig.world c.find_block.new.rig in
+    let held : Kept print c.find_block.new.self.store middle was s = kept_behind print c.args.self.now.store c.find_block.new.self.store before middle was s c.find_block.ensures.store (c.find_block.ensures.world told) kept in
+    let held_too = subst (λ f. Kept (g.F.Fingerprint.printed f) c.find_block.new.self.store middle was s) (sym c.find_block.ensures.print) held in
+    let fp_is : c.print-fp.result ≡ g.F.Fingerprint.printed c.args.self.now.print c.args.block.now = c.print-fp.ensures ∙ ap (λ (v : StoreOf g.row.F.Denot). g.F.Fingerprint.printed v.print c.args.block.now) c.self.view_is in
+    let printed : c.print-fp.result ≡ g.F.Fingerprint.printed c.find_block.new.self.print c.args.block.now = fp_is ∙ ap (λ f. g.F.Fingerprint.printed f c.args.block.now) (sym c.find_block.ensures.print) in
+    let some : is_zero_block c.args.block.now ≡ false = sym c.is_zero.ensures ∙ c.if-is_zero.false in
+    let found = subst (FoundAs c.args.self.now.store.journal.geo before.flash.shown s c.args.block.now) c.in-None.is (c.in-Ok.ensures.found told print s kept.holds fp_is) in
+    subst (λ (v : StoreView). IfOk c.enter.result (λ done. Tells print done (answer_for c.args.dirty (sizes_of v.journal.geo) s c.args.address c.args.block.now))) c.find_block.ensures.store
+    (subst (λ f. IfOk c.enter.result (λ done. Tells (g.F.Fingerprint.printed f) done (answer_for c.args.dirty (sizes_of c.find_block.new.self.store.journal.geo) s c.args.address c.args.block.now))) c.find_block.ensures.print
+    (c.enter.ensures.tells told was s held_too printed some found read))
+
+pub returns-in-None-clause-rows : goal.returns-in-None-clause-rows
+returns-in-None-clause-rows g c = references_behind c.args.address c.args.dirty c.args.self.now.store c.find_block.new.self.store c.enter.new.self.store c.find_block.ensures.store c.enter.result c.enter.ensures.rows
+
+pub returns-in-None-clause-little : goal.returns-in-None-clause-little
+returns-in-None-clause-little g c = little_fresh c.args.address (candidates (g.F.Fingerprint.printed c.args.self.now.print c.args.block.now) c.args.self.now.store.table.b) c.args.dirty c.args.self.now.store c.find_block.new.self.store c.find_block.ensures.store
+    (g.R.Rig.counts c.args.rig.now) (g.R.Rig.counts c.find_block.new.rig) (g.R.Rig.counts c.enter.new.rig)
+    (subst (λ fp. Makes (up_to (candidates fp c.args.self.now.store.table.b) 0 0) nothing (g.R.Rig.counts c.args.rig.now) (g.R.Rig.counts c.find_block.new.rig)) (c.print-fp.ensures ∙ ap (λ (v : StoreOf g.row.F.Denot). g.F.Fingerprint.printed v.print c.args.block.now) c.self.view_is) c.find_block.ensures.calls)
+    c.enter.result c.enter.ensures.kind c.enter.ensures.at_once
+
+pub returns-in-None-clause-disk : goal.returns-in-None-clause-disk
+returns-in-None-clause-disk g c = disk_fresh c.args.address (candidates c.print-fp.result c.args.self.now.store.table.b) c.args.dirty c.args.self.now.store c.find_block.new.self.store c.find_block.ensures.store
+    (g.R.Rig.counts c.args.rig.now) (g.R.Rig.counts c.find_block.new.rig) (g.R.Rig.counts c.enter.new.rig) c.find_block.ensures.calls c.enter.result c.enter.ensures.kind c.enter.ensures.disk
+
+pub returns-in-Some-clause-serves : goal.returns-in-Some-clause-serves
+returns-in-Some-clause-serves g c = λ told was s kept read.
+    let print = g.F.Fingerprint.printed c.args.self.now.print in
+    let first = g.R.Rig.clock c.args.rig.now in
+    let second = g.R.Rig.clock c.find_block.new.rig in
+    let before = g.R.Rig.world c.args.rig.now in
+    let middle = g.R.Rig.world c.find_block.new.rig in
+    let held : Kept print c.find_block.new.self.store middle was s = kept_behind print c.args.self.now.store c.find_block.new.self.store before middle was s c.find_block.ensures.store (c.find_block.ensures.world told) kept in
+    let held_too = subst (λ f. Kept (g.F.Fingerprint.printed f) c.find_block.new.self.store middle was s) (sym c.find_block.ensures.print) held in
+    let fp_is : c.print-fp.result ≡ g.F.Fingerprint.printed c.args.self.now.print c.args.block.now = c.print-fp.ensures ∙ ap (λ (v : StoreOf g.row.F.Denot). g.F.Fingerprint.printed v.print c.args.block.now) c.self.view_is in
+    let printed : c.print-fp.result ≡ g.F.Fingerprint.printed c.find_block.new.self.print c.args.block.now = fp_is ∙ ap (λ f. g.F.Fingerprint.printed f c.args.block.now) (sym c.find_block.ensures.print) in
+    let some : is_zero_block c.args.block.now ≡ false = sym c.is_zero.ensures ∙ c.if-is_zero.false in
+    let found = subst (FoundAs c.args.self.now.store.journal.geo before.flash.shown s c.args.block.now) c.in-Some.is (c.in-Ok.ensures.found told print s kept.holds fp_is) in
+    let slot_holds = subst (λ (v : StoreView). slot_block v.journal.geo middle.flash.shown c.in-Some.slot ≡ c.args.block.now) (sym c.find_block.ensures.store) (ap (λ (w : World). slot_block c.args.self.now.store.journal.geo w.flash.shown c.in-Some.slot) (c.find_block.ensures.world told) ∙ found.1) in
+    let below = subst (λ (v : StoreView). c.args.address < v.journal.geo.blocks) (sym c.find_block.ensures.store) c.requires.below in
+    let long = subst (λ (v : StoreView). length c.args.block.now ≡ v.journal.geo.block) (sym c.find_block.ensures.store) c.requires.long in
+    let is_given = subst (λ (v : StoreView). IsGiven (listing_in v) (Known c.in-Some.slot)) (sym c.find_block.ensures.store) (subst (λ o. IfSome o (λ slot. IsGiven (listing_in c.args.self.now.store) (Known slot))) c.in-Some.is c.in-Ok.ensures.listed) in
+    let carries = carries_listed (g.F.Fingerprint.printed c.find_block.new.self.print) c.find_block.new.self.store middle s held_too.holds c.args.address below c.args.block.now c.args.dirty long read c.in-Some.slot is_given slot_holds in
+    subst (λ (v : StoreView). Serves print c.join-in-Some.result first (g.R.Rig.clock c.join-in-Some.new.rig) c.join-in-Some.new.self.store (g.R.Rig.world c.join-in-Some.new.rig) was s (reference (sizes_of v.journal.geo) s c.args.address c.args.block.now)) c.find_block.ensures.store
+    (serves_behind print c.join-in-Some.result (c.find_block.ensures.time told)
+    (subst (λ f. Serves (g.F.Fingerprint.printed f) c.join-in-Some.result second (g.R.Rig.clock c.join-in-Some.new.rig) c.join-in-Some.new.self.store (g.R.Rig.world c.join-in-Some.new.rig) was s (reference (sizes_of c.find_block.new.self.store.journal.geo) s c.args.address c.args.block.now)) c.find_block.ensures.print
+    (c.join-in-Some.ensures.serves told was s held_too c.args.block.now carries)))
+
+pub returns-in-Some-clause-tells : goal.returns-in-Some-clause-tells
+returns-in-Some-clause-tells g c = λ told was s kept read.
+    let print = g.F.Fingerprint.printed c.args.self.now.print in
+    let first = g.R.Rig.clock c.args.rig.now in
+    let second = g.R.Rig.clock c.find_block.new.rig in
+    let before = g.R.Rig.world c.args.rig.now in
+    let middle = g.R.Rig.world c.find_block.new.rig in
+    let held : Kept print c.find_block.new.self.store middle was s = kept_behind print c.args.self.now.store c.find_block.new.self.store before middle was s c.find_block.ensures.store (c.find_block.ensures.world told) kept in
+    let held_too = subst (λ f. Kept (g.F.Fingerprint.printed f) c.find_block.new.self.store middle was s) (sym c.find_block.ensures.print) held in
+    let fp_is : c.print-fp.result ≡ g.F.Fingerprint.printed c.args.self.now.print c.args.block.now = c.print-fp.ensures ∙ ap (λ (v : StoreOf g.row.F.Denot). g.F.Fingerprint.printed v.print c.args.block.now) c.self.view_is in
+    let printed : c.print-fp.result ≡ g.F.Fingerprint.printed c.find_block.new.self.print c.args.block.now = fp_is ∙ ap (λ f. g.F.Fingerprint.printed f c.args.block.now) (sym c.find_block.ensures.print) in
+    let some : is_zero_block c.args.block.now ≡ false = sym c.is_zero.ensures ∙ c.if-is_zero.false in
+    let found = subst (FoundAs c.args.self.now.store.journal.geo before.flash.shown s c.args.block.now) c.in-Some.is (c.in-Ok.ensures.found told print s kept.holds fp_is) in
+    let slot_holds = subst (λ (v : StoreView). slot_block v.journal.geo middle.flash.shown c.in-Some.slot ≡ c.args.block.now) (sym c.find_block.ensures.store) (ap (λ (w : World). slot_block c.args.self.now.store.journal.geo w.flash.shown c.in-Some.slot) (c.find_block.ensures.world told) ∙ found.1) in
+    let below = subst (λ (v : StoreView). c.args.address < v.journal.geo.blocks) (sym c.find_block.ensures.store) c.requires.below in
+    let long = subst (λ (v : StoreView). length c.args.block.now ≡ v.journal.geo.block) (sym c.find_block.ensures.store) c.requires.long in
+    let is_given = subst (λ (v : StoreView). IsGiven (listing_in v) (Known c.in-Some.slot)) (sym c.find_block.ensures.store) (subst (λ o. IfSome o (λ slot. IsGiven (listing_in c.args.self.now.store) (Known slot))) c.in-Some.is c.in-Ok.ensures.listed) in
+    let carries = carries_listed (g.F.Fingerprint.printed c.find_block.new.self.print) c.find_block.new.self.store middle s held_too.holds c.args.address below c.args.block.now c.args.dirty long read c.in-Some.slot is_given slot_holds in
+    let i = c.self.inside in
+    let typed : IsStore c.args.self.now.store = subst (λ (v : StoreOf g.row.F.Denot). IsStore v.store) c.self.view_is (c.self.invariant.7 (ap (λ (v : StoreOf g.row.F.Denot). v.store.is_up) c.self.view_is ∙ c.requires.call.up)) in
+    let kind = kind_at_hand print c.args.self.now.store before s typed kept.holds c.args.address c.args.block.now c.args.dirty c.requires.anew read (ap (λ b. b || is_known c.args.block.now s.blocks) some ∙ found.0) in
+    subst (λ (v : StoreView). IfOk c.join-in-Some.result (λ done. Tells print done (answer_for c.args.dirty (sizes_of v.journal.geo) s c.args.address c.args.block.now))) c.find_block.ensures.store
+    (subst (λ f. IfOk c.join-in-Some.result (λ done. Tells (g.F.Fingerprint.printed f) done (answer_for c.args.dirty (sizes_of c.find_block.new.self.store.journal.geo) s c.args.address c.args.block.now))) c.find_block.ensures.print
+    (c.join-in-Some.ensures.tells told was s held_too c.args.block.now carries
+    (subst (λ (v : StoreView). (if c.args.dirty then Dup else Join) ≡ (answer_for c.args.dirty (sizes_of v.journal.geo) s c.args.address c.args.block.now).kind) (sym c.find_block.ensures.store) kind)))
+
+pub returns-in-Some-clause-rows : goal.returns-in-Some-clause-rows
+returns-in-Some-clause-rows g c = references_behind c.args.address c.args.dirty c.args.self.now.store c.find_block.new.self.store c.join-in-Some.new.self.store c.find_block.ensures.store c.join-in-Some.result c.join-in-Some.ensures.rows
+
+pub returns-in-Some-clause-little : goal.returns-in-Some-clause-little
+returns-in-Some-clause-little g c = little_known c.args.address (candidates (g.F.Fingerprint.printed c.args.self.now.print c.args.block.now) c.args.self.now.store.table.b) c.args.dirty c.args.self.now.store c.find_block.new.self.store c.find_block.ensures.store
+    (g.R.Rig.counts c.args.rig.now) (g.R.Rig.counts c.find_block.new.rig) (g.R.Rig.counts c.join-in-Some.new.rig)
+    (subst (λ fp. Makes (up_to (candidates fp c.args.self.now.store.table.b) 0 0) nothing (g.R.Rig.counts c.args.rig.now) (g.R.Rig.counts c.find_block.new.rig)) (c.print-fp.ensures ∙ ap (λ (v : StoreOf g.row.F.Denot). g.F.Fingerprint.printed v.print c.args.block.now) c.self.view_is) c.find_block.ensures.calls)
+    c.in-Some.slot (λ prepared. ap g.R.Rig.counts (c.join-in-Some.ensures.at_once prepared).1) c.join-in-Some.result c.join-in-Some.ensures.kind

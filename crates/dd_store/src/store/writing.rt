@@ -1,0 +1,64 @@
+// A write.
+ghost use Rattle.std.specs.Prelude.{◌≡◌, ◌≢◌, ◌<◌, ◌≤◌, ◌*◌, [], length, true, IfOk, IfErr, OnOk};
+ghost use Rattle.dd_rig.specs.Clock.{Elapses};
+ghost use Rattle.dd_rig.specs.Counts.{Frame, Makes, CalledAtMost, up_to, nothing};
+ghost use Rattle.dd_model.specs.declared.given.Want.TheVariants.{Fresh as FreshBlock};
+ghost use Rattle.dd_model.specs.Confirming.{candidates};
+ghost use Rattle.dd_model.specs.Reference.{reference, write_answer, Tells};
+ghost use Rattle.dd_model.specs.State.{State};
+ghost use Rattle.dd_store.specs.declared.fault.StoreFault.TheVariants.{DiskRead};
+ghost use Rattle.dd_store.specs.Meaning.{sizes_of};
+ghost use Rattle.dd_store.specs.Keeping.{Kept};
+ghost use Rattle.dd_store.specs.Rounds.{Cleans, HasRoom, LoadsAtMost};
+ghost use Rattle.dd_store.specs.Bringing.{IsPrepared, References, want_for, saves, IsReadFault};
+ghost use Rattle.dd_store.specs.Serving.{MayCall, Serves, StaysUp, Faulted, GrowsLittle};
+
+use super::Store;
+use crate::StoreFault;
+use dd_block::Fingerprint;
+use dd_model::{Done, Lists};
+use dd_rig::Rig;
+
+impl<F: Fingerprint, L: Lists> Store<F, L> {
+    /// Writes a block to an address: it references the address with it, and the address is dirty from
+    /// then on. It answers the kind of the reference, and what fell off both lists.
+    ///
+    /// Nothing is written to the disk but what a cut asks for, and zeros take no slot. After `FlashRead`
+    /// the store holds what it held, though addresses may have been written back and be clean now; after
+    /// `FlashWrite` and `DiskWrite` it is down. The cost is that of the lists, a hash of the block where
+    /// it isn't zeros, and the rounds of write-back that a cut asks for.
+    pub fn write<R: Rig>(
+        &mut self,
+        rig: &mut R,
+        address: u32,
+        block: &[u8],
+    ) -> Result<Done, StoreFault>
+        requires call { MayCall self.old.store (R.device_size rig.old) }
+        requires below { address < self.old.store.journal.geo.blocks }
+        requires long { length block.now ≡ self.old.store.journal.geo.block }
+        ensures serves { R.tells → (c s : State) → Kept (F.printed self.old.print) self.old.store (R.world rig.old) c s
+            → Serves (F.printed self.old.print) result (R.clock rig.old) (R.clock rig.new) self.new.store (R.world rig.new) c s
+              (reference (sizes_of self.old.store.journal.geo) s address block.now) }
+        ensures answer { R.tells → (c s : State) → Kept (F.printed self.old.print) self.old.store (R.world rig.old) c s
+            → IfOk result (λ done. Tells (F.printed self.old.print) done (write_answer (sizes_of self.old.store.journal.geo) s address block.now)) }
+        ensures unsaid { R.tells → Elapses (R.clock rig.old) (R.clock rig.new) (λ o. o.out ≡ (R.world rig.old).said) }
+        ensures said { R.tells → (R.world rig.new).said ≡ (R.world rig.old).said }
+        ensures rows { IfOk result (References address true self.old.store self.new.store) }
+        ensures failed { IfErr result (λ fault. IsReadFault fault → Cleans self.old.store self.new.store) }
+        ensures little { IfOk result (λ done. IsPrepared address (want_for done.kind) self.old.store
+            → Makes (up_to (candidates (F.printed self.old.print block.now) self.old.store.table.b) (saves done.kind) (saves done.kind * self.old.store.journal.geo.block)) nothing (R.counts rig.old) (R.counts rig.new)) }
+        ensures disk { IfOk result (λ done. HasRoom address (want_for done.kind) self.old.store → CalledAtMost nothing (R.counts rig.old).disk (R.counts rig.new).disk) }
+        ensures idle { HasRoom address FreshBlock self.old.store → CalledAtMost nothing (R.counts rig.old).disk (R.counts rig.new).disk }
+        ensures loads { OnOk result (LoadsAtMost 2 self.old.store self.new.store (R.counts rig.old).disk (R.counts rig.new).disk) }
+        ensures reads { (R.counts rig.new).disk.reads ≤ (R.counts rig.old).disk.reads }
+        ensures fault { IfErr result (λ fault. fault ≢ DiskRead) }
+        ensures up { StaysUp result self.new.store }
+        ensures print { self.new.print ≡ self.old.print }
+        ensures forgets { self.new.store.laid ≡ [] }
+        ensures grows { GrowsLittle self.old.store self.new.store }
+        ensures cause { IfErr result (λ fault. Faulted fault (R.counts rig.old) (R.counts rig.new)) }
+        ensures frame { Frame (R.counts rig.old) (R.counts rig.new) (R.device_size rig.old) (R.device_size rig.new) }
+    {
+        self.bring(rig, address, block, true)
+    }
+}
