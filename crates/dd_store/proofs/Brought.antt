@@ -78,7 +78,7 @@ module _ (print : List ℕ → Fp) (old middle : StoreView) (before after : Worl
           either = inl refl;
           kept = subst (λ (v : StoreView). Kept print v after k (reference (sizes_of old.journal.geo) s address bytes)) (sym new_is)
               (subst (λ (g : Geometry). Kept print (referred_store its (touch_by address block dirty (listing_in middle)) middle) after k (reference (sizes_of g) s address bytes)) cleans.geometry
-                  (kept_referred print middle after s is held.holds its (touch_by address block dirty (listing_in middle)) bytes (refers_of print middle after.flash.shown s its _ bytes fits (there k held)) k held));
+              (kept_referred print middle after s is held.holds its (touch_by address block dirty (listing_in middle)) bytes (refers_of print middle after.flash.shown s its _ bytes fits (there k held)) k held));
         };
       })
 

@@ -1,5 +1,5 @@
 -- A content that is there stays there while the store holds the same state and lists the same blocks.
-use Rattle.std.proofs.Common.{◌≡◌, ◌⊎◌, ℕ, ◌<◌, Bool, true, false, List, [], ◌∷◌, map, length, refl, sym, ◌∙◌, ap, subst, Some, None}
+use Rattle.std.proofs.Common.{◌≡◌, ◌⊎◌, ℕ, ◌<◌, Bool, true, false, List, [], ◌∷◌, map, refl, sym, ◌∙◌, ap, subst, Some, None}
 use Rattle.std.specs.Prelude.{Option, ◌||◌, ◌==◌}
 use Rattle.std.proofs.lemmas.Bool.{eqb-true}
 use Rattle.dd_block.specs.declared.geometry.Geometry.{Geometry}
@@ -7,9 +7,9 @@ use Rattle.dd_block.specs.declared.print.Fp.{Fp}
 use Rattle.dd_rig.specs.World.{World}
 use Rattle.dd_layout.specs.Layout.{slot_block}
 use Rattle.dd_record.specs.declared.row.BRow.{BRow}
-use Rattle.dd_record.specs.Table.{Table, has_slot}
+use Rattle.dd_record.specs.Table.{has_slot}
 use Rattle.dd_record.specs.Replay.{Touch}
-use Rattle.dd_model.specs.State.{State, content, is_known}
+use Rattle.dd_model.specs.State.{State, is_known}
 use Rattle.dd_model.specs.Rows.{held_block}
 use Rattle.dd_store.specs.Keeping.{StoreView, Holds}
 use Rattle.dd_store.specs.Referring.{IsThere, IsPlaced}

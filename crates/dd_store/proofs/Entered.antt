@@ -8,34 +8,29 @@ use Rattle.dd_rig.specs.World.{World}
 use Rattle.dd_rig.proofs.Moments.{widens}
 use Rattle.dd_slots.specs.declared.usage.Usage.{Usage}
 use Rattle.dd_slots.specs.declared.usage.Usage.TheVariants.{Used}
-use Rattle.dd_slots.specs.Slots.{SlotsView, Takes, use_of, is_free, with_use}
 use Rattle.dd_layout.specs.Layout.{slot_block}
-use Rattle.dd_record.specs.declared.row.BRow.{BRow}
 use Rattle.dd_record.specs.declared.row.Link.TheVariants.{Lost}
 use Rattle.dd_record.specs.declared.rec.Rec.{Rec}
 use Rattle.dd_record.specs.declared.rec.Rec.TheVariants.{Store}
-use Rattle.dd_record.specs.Spelling.{IsFp, IsRec}
-use Rattle.dd_record.specs.Table.{b_row, link_at}
+use Rattle.dd_record.specs.Spelling.{IsFp}
+use Rattle.dd_record.specs.Table.{link_at}
 use Rattle.dd_record.specs.Replay.{Touch, cut_block}
 use Rattle.dd_model.specs.declared.done.Cut.{Cut}
-use Rattle.dd_model.specs.declared.done.Done.{Done}
 use Rattle.dd_model.specs.declared.given.Block.TheVariants as given
 use Rattle.dd_model.specs.declared.given.Want.TheVariants as wants
 use Rattle.dd_model.specs.declared.kind.Kind.TheVariants.{Miss, New}
-use Rattle.dd_model.specs.Listing.{Listing, IsListing, IsGiven, touch_by, may_refer, referred, cut_of}
+use Rattle.dd_model.specs.Listing.{Listing, IsListing, IsGiven, touch_by, may_refer, cut_of}
 use Rattle.dd_model.specs.Reference.{reference, Tells}
 use Rattle.dd_model.specs.State.{State, content, is_zero_block, is_known, is_at_hand}
 use Rattle.dd_journal.specs.Sitting.{JournalView}
-use Rattle.dd_store.specs.declared.fault.StoreFault.{StoreFault}
 use Rattle.dd_store.specs.declared.fault.StoreFault.TheVariants.{FlashWrite}
-use Rattle.dd_store.specs.Bringing.{IsPrepared, Carries, Enters, answer_for}
-use Rattle.dd_store.specs.Committing.{StandForEither}
-use Rattle.dd_store.specs.Keeping.{StoreView, IsStore, Holds, Kept, is_spare}
+use Rattle.dd_store.specs.Bringing.{IsPrepared, Carries, answer_for}
+use Rattle.dd_store.specs.Keeping.{StoreView, IsStore, Kept, is_spare}
 use Rattle.dd_store.specs.Meaning.{Stands, sizes_of}
-use Rattle.dd_store.specs.Referring.{RecordFits, referred_store, listing_in, let_go, done_of}
+use Rattle.dd_store.specs.Referring.{RecordFits, referred_store, listing_in}
 use Rattle.dd_store.specs.Serving.{HasLimits, Serves, store_of}
 use Rattle.dd_store.proofs.Answered.{refers_of, tells_as}
-use Rattle.dd_store.proofs.Fresh.{row_at, fresh_given, fresh_cut_used, fresh_fits, fresh_store}
+use Rattle.dd_store.proofs.Fresh.{row_at, fresh_given, fresh_cut_used, fresh_fits}
 use Rattle.dd_store.proofs.Known.{known_listing, listing_same}
 use Rattle.dd_store.proofs.Located.{carries_fresh}
 use Rattle.dd_store.proofs.Prepared.{room_may}

@@ -4,7 +4,6 @@ use Rattle.std.specs.Prelude.{Option}
 use Rattle.dd_block.specs.declared.print.Fp.{Fp}
 use Rattle.dd_rig.specs.World.{World}
 use Rattle.dd_slots.specs.Slots.{SlotsView, block_in}
-use Rattle.dd_layout.specs.Layout.{slot_block}
 use Rattle.dd_model.specs.Confirming.{Confirms}
 use Rattle.dd_model.specs.Rows.{Shows}
 use Rattle.dd_model.specs.State.{State}

@@ -1,7 +1,6 @@
 -- A reference with a block that isn't listed: what the lists are asked, and what becomes of the slots.
 use Rattle.std.proofs.Common.{◌≡◌, ◌⊎◌, ℕ, suc, ◌<◌, ◌==◌, Bool, true, false, cond, List, [], ◌∷◌, ◌++◌, length, refl, sym, ◌∙◌, ap, arith, Some, None, if◌then◌else◌}
 use Rattle.std.specs.Prelude.{Option, IfSome, slice_get, slice_set, ◌||◌}
-use Rattle.dd_block.specs.Geometry.{slot_count}
 use Rattle.dd_block.specs.declared.print.Fp.{Fp}
 use Rattle.dd_slots.specs.declared.usage.Usage.{Usage}
 use Rattle.dd_slots.specs.declared.usage.Usage.TheVariants.{Used}
@@ -12,7 +11,6 @@ use Rattle.dd_record.specs.declared.rec.Rec.{Rec}
 use Rattle.dd_record.specs.declared.rec.Rec.TheVariants.{Store}
 use Rattle.dd_record.specs.Table.{has_slot, b_row, link_at}
 use Rattle.dd_record.specs.Replay.{Touch, cut_block, b_moved, touched}
-use Rattle.dd_model.specs.declared.given.Block.{Block}
 use Rattle.dd_model.specs.declared.given.Block.TheVariants as given
 use Rattle.dd_model.specs.declared.given.Want.TheVariants as wants
 use Rattle.dd_model.specs.Listing.{Listing, IsListing, IsGiven, touch_by, referred, cut_of}

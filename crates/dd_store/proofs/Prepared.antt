@@ -1,22 +1,21 @@
 -- A reference for which room was made: its record fits, also where addresses were made clean since it was looked for.
-use Rattle.std.proofs.Common.{◌≡◌, ◌⊎◌, ⊎_elim, inl, inr, ℕ, ◌<◌, ◌==◌, Bool, true, false, cond, List, [], ◌∷◌, length, refl, sym, ◌∙◌, ap, subst, arith, Some, None}
+use Rattle.std.proofs.Common.{◌≡◌, ◌⊎◌, ⊎_elim, inl, inr, ℕ, ◌<◌, ◌==◌, Bool, true, false, cond, List, [], ◌∷◌, refl, sym, ◌∙◌, ap, subst, Some, None}
 use Rattle.std.specs.Prelude.{Option, IfSome, option_map, is_some, not, ◌&&◌, ◌||◌, is_none, if◌then◌else◌}
 use Rattle.std.specs.List.{list_any}
 use Rattle.dd_block.specs.declared.geometry.Geometry.{Geometry}
 use Rattle.dd_block.specs.Geometry.{slot_count}
 use Rattle.dd_record.specs.declared.row.ARow.{ARow}
 use Rattle.dd_record.specs.declared.row.BRow.{BRow}
-use Rattle.dd_record.specs.declared.row.Link.{Link}
 use Rattle.dd_record.specs.declared.row.Link.TheVariants as links
 use Rattle.dd_record.specs.declared.rec.Rec.{Rec}
 use Rattle.dd_record.specs.declared.rec.Rec.TheVariants.{Hit, Link as ToSlot, Store, Zero, Clean}
 use Rattle.dd_record.specs.Table.{Table, a_row, b_row, is_link, link_of, link_at, is_dirty_at}
-use Rattle.dd_record.specs.Replay.{Touch, touch_of, hit_of, raises, cleaned, cleaned_row}
+use Rattle.dd_record.specs.Replay.{touch_of, hit_of, raises, cleaned}
 use Rattle.dd_model.specs.declared.done.Victims.{Victims}
 use Rattle.dd_model.specs.declared.given.Block.{Block}
 use Rattle.dd_model.specs.declared.given.Block.TheVariants as given
 use Rattle.dd_model.specs.declared.given.Want.{Want}
-use Rattle.dd_model.specs.Listing.{Listing, IsListing, IsGiven, is_fresh, want_of, touch_by, may_refer, last_of_full, victims_of, victims_from, cut_of, refers}
+use Rattle.dd_model.specs.Listing.{IsListing, IsGiven, is_fresh, want_of, touch_by, may_refer, last_of_full, victims_of, victims_from, cut_of, refers}
 use Rattle.dd_model.proofs.Allowed.{may_touch_now}
 use Rattle.dd_model.proofs.Falling.{victims_next}
 use Rattle.dd_store.specs.Keeping.{StoreView}

@@ -1,18 +1,15 @@
 -- Room is made, and records are committed where they have to be: a reference may be made then.
-use Rattle.std.proofs.Common.{◌≡◌, ℕ, ◌+◌, ◌<◌, ◌≤◌, ◌==◌, Bool, true, false, cond, List, [], ◌∷◌, map, length, refl, sym, ◌∙◌, ap, subst, arith, Some, None}
-use Rattle.std.specs.Prelude.{Result, Ok, Err, OnOk, Option, option_map, slice_get, not, ◌&&◌, ◌||◌, nat_le, if◌then◌else◌}
-use Rattle.std.specs.List.{list_any}
+use Rattle.std.proofs.Common.{◌≡◌, ℕ, ◌+◌, ◌<◌, ◌==◌, Bool, true, false, List, [], ◌∷◌, map, length, refl, sym, ◌∙◌, ap, subst, arith, Some, None}
+use Rattle.std.specs.Prelude.{Result, Ok, Err, OnOk, Option, option_map, slice_get, not, ◌&&◌, ◌||◌, nat_le}
 use Rattle.std.proofs.lemmas.List.{length-map}
 use Rattle.std.proofs.lemmas.Option.{slice_get-map}
-use Rattle.dd_block.specs.declared.geometry.Geometry.{Geometry}
-use Rattle.dd_block.specs.Geometry.{slot_count}
 use Rattle.dd_slots.specs.declared.usage.Usage.{Usage}
 use Rattle.dd_slots.specs.declared.usage.Usage.TheVariants.{Free, Used, Waiting}
 use Rattle.dd_slots.specs.Numbers.{is_among}
 use Rattle.dd_slots.specs.Slots.{is_used, is_waiting, freed}
 use Rattle.dd_slots.proofs.Room.{some_free}
 use Rattle.dd_record.specs.declared.row.BRow.{BRow}
-use Rattle.dd_record.specs.Table.{Table, has_slot}
+use Rattle.dd_record.specs.Table.{has_slot}
 use Rattle.dd_model.specs.declared.given.Want.{Want}
 use Rattle.dd_model.specs.Listing.{is_fresh}
 use Rattle.dd_journal.specs.Sitting.{JournalView}

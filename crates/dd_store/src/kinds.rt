@@ -21,27 +21,9 @@ pub(crate) fn kind_of(its: Rec) -> Kind
 {
     match its {
         Rec::Hit { .. } => Kind::Hit,
-        Rec::Link { dirty, .. } => {
-            if dirty {
-                Kind::Dup
-            } else {
-                Kind::Join
-            }
-        }
-        Rec::Store { dirty, .. } => {
-            if dirty {
-                Kind::New
-            } else {
-                Kind::Miss
-            }
-        }
-        Rec::Zero { dirty, .. } => {
-            if dirty {
-                Kind::Dup
-            } else {
-                Kind::Join
-            }
-        }
+        Rec::Link { dirty, .. } => { if dirty { Kind::Dup } else { Kind::Join } }
+        Rec::Store { dirty, .. } => { if dirty { Kind::New } else { Kind::Miss } }
+        Rec::Zero { dirty, .. } => { if dirty { Kind::Dup } else { Kind::Join } }
         Rec::Clean { .. } => Kind::Hit,
     }
 }

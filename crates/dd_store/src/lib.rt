@@ -4,7 +4,11 @@
 //! of a disk stand for an array, both recency lists and a count. It reads two whole images; it knows
 //! nothing of pending records, free slots or indexes. Two devices stand for one state at most
 //! (`proofs/Sole`). `specs/Keeping` says what holds between a store and a rig from one device call
-//! to the next, and each function here carries it through one kind of call.
+//! to the next. `Store` has the calls: `read` and `write` reference an address, `flush` commits,
+//! `clean` and `tick` write dirty addresses back, `lay` and `mark` are the two halves of that. A
+//! crash within any of them leaves devices that stand for the state committed or for the one held
+//! (`specs/Serving`); what a reference leaves of the rows and what it costs is in `specs/Bringing`,
+//! what a round of write-back does in `specs/Rounds`.
 #![tactic(auto)]
 
 mod along;

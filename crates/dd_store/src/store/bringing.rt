@@ -69,7 +69,13 @@ impl<F: Fingerprint, L: Lists> Store<F, L> {
     {
         let _ = &self.up;
         if is_zero(block) {
-            return self.join(rig, address, Block::Zero, Rec::Zero { address, dirty }, dirty);
+            return self.join(
+                rig,
+                address,
+                Block::Zero,
+                Rec::Zero { address, dirty },
+                dirty,
+            );
         }
         let fp = self.print.print(block);
         match self.find_block(rig, fp, block) {

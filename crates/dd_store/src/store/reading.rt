@@ -46,7 +46,7 @@ impl<F: Fingerprint, L: Lists> Store<F, L> {
         requires long { length into.old ≡ self.old.store.journal.geo.block }
         ensures serves { R.tells → (c s : State) → Kept (F.printed self.old.print) self.old.store (R.world rig.old) c s
             → Serves (F.printed self.old.print) result (R.clock rig.old) (R.clock rig.new) self.new.store (R.world rig.new) c s
-              (reference (sizes_of self.old.store.journal.geo) s address (content s.array address)) }
+            (reference (sizes_of self.old.store.journal.geo) s address (content s.array address)) }
         ensures answer { R.tells → (c s : State) → Kept (F.printed self.old.print) self.old.store (R.world rig.old) c s
             → IfOk result (λ done. (into.new ≡ content s.array address) × Tells (F.printed self.old.print) done (read_answer (sizes_of self.old.store.journal.geo) s address)) }
         ensures unsaid { R.tells → Elapses (R.clock rig.old) (R.clock rig.new) (λ o. o.out ≡ (R.world rig.old).said) }
@@ -74,7 +74,13 @@ impl<F: Fingerprint, L: Lists> Store<F, L> {
             },
             Link::Slot(slot) => match self.read_slot(rig, slot, into) {
                 Err(fault) => Err(fault),
-                Ok(()) => self.join(rig, address, Block::Known(slot), Rec::Hit { address }, false),
+                Ok(()) => self.join(
+                    rig,
+                    address,
+                    Block::Known(slot),
+                    Rec::Hit { address },
+                    false,
+                ),
             },
             Link::Zero => {
                 into.fill(0);

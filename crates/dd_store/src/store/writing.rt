@@ -38,7 +38,7 @@ impl<F: Fingerprint, L: Lists> Store<F, L> {
         requires long { length block.now ≡ self.old.store.journal.geo.block }
         ensures serves { R.tells → (c s : State) → Kept (F.printed self.old.print) self.old.store (R.world rig.old) c s
             → Serves (F.printed self.old.print) result (R.clock rig.old) (R.clock rig.new) self.new.store (R.world rig.new) c s
-              (reference (sizes_of self.old.store.journal.geo) s address block.now) }
+            (reference (sizes_of self.old.store.journal.geo) s address block.now) }
         ensures answer { R.tells → (c s : State) → Kept (F.printed self.old.print) self.old.store (R.world rig.old) c s
             → IfOk result (λ done. Tells (F.printed self.old.print) done (write_answer (sizes_of self.old.store.journal.geo) s address block.now)) }
         ensures unsaid { R.tells → Elapses (R.clock rig.old) (R.clock rig.new) (λ o. o.out ≡ (R.world rig.old).said) }

@@ -1,18 +1,16 @@
-use Rattle.std.proofs.Common.{◌≡◌, ◌⊎◌, ◌<◌, inl, inr, length, Bool, true, false, refl, sym, ◌∙◌, ap, subst, arith, if◌then◌else◌}
-use Rattle.std.specs.Prelude.{◌||◌, IfOk, IfSome, Err}
+use Rattle.std.proofs.Common.{◌≡◌, ◌<◌, inl, length, false, sym, ◌∙◌, ap, subst, if◌then◌else◌}
+use Rattle.std.specs.Prelude.{◌||◌, IfOk, IfSome}
 use Rattle.dd_block.specs.Geometry.{slot_count}
 use Rattle.dd_rig.specs.Counts.{Makes, up_to, nothing}
 use Rattle.dd_rig.specs.World.{World}
 use Rattle.dd_layout.specs.Layout.{slot_block}
-use Rattle.dd_record.specs.declared.row.Link.TheVariants.{Lost}
-use Rattle.dd_record.specs.Table.{link_at}
 use Rattle.dd_model.specs.declared.done.Done.{Done}
 use Rattle.dd_model.specs.declared.given.Block.TheVariants.{Known}
 use Rattle.dd_model.specs.declared.kind.Kind.TheVariants.{Dup, Join}
 use Rattle.dd_model.specs.Listing.{IsGiven}
 use Rattle.dd_model.specs.Confirming.{candidates}
 use Rattle.dd_model.specs.Reference.{reference, Tells}
-use Rattle.dd_model.specs.State.{is_zero_block, is_known, is_at_hand}
+use Rattle.dd_model.specs.State.{is_zero_block, is_known}
 use Rattle.dd_store.specs.Bringing.{FoundAs, answer_for}
 use Rattle.dd_store.specs.Keeping.{StoreView, IsStore, Kept}
 use Rattle.dd_store.specs.Meaning.{sizes_of}

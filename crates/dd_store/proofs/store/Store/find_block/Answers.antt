@@ -38,6 +38,6 @@ returns-clause-found g c = λ told print s holds printed.
     found_as print was (g.R.Rig.world c.args.rig.now) s base i.slots (subst (λ (geo : Geometry). AreSlotsOf geo i.slots) (sym c.self.invariant.0) c.self.invariant.4) c.args.fp c.args.block.now printed in
     subst (λ (v : StoreOf g.row.F.Denot). IfOk c.match-confirm.result (FoundAs v.store.journal.geo flash s c.args.block.now)) c.self.view_is
     (elim c.match-confirm.branch [
-      in-Err w ↦ subst (λ (r : Result (Option ℕ) StoreFault). IfOk r (FoundAs i.journal.geo flash s c.args.block.now)) (sym w.result-is) tt
-    | in-Ok w ↦ subst (λ (r : Result (Option ℕ) StoreFault). IfOk r (FoundAs i.journal.geo flash s c.args.block.now)) (sym w.result-is) (base_found w.in-Ok.found (w.in-Ok.ensures.found told))
+      | in-Err w ↦ subst (λ (r : Result (Option ℕ) StoreFault). IfOk r (FoundAs i.journal.geo flash s c.args.block.now)) (sym w.result-is) tt
+      | in-Ok w ↦ subst (λ (r : Result (Option ℕ) StoreFault). IfOk r (FoundAs i.journal.geo flash s c.args.block.now)) (sym w.result-is) (base_found w.in-Ok.found (w.in-Ok.ensures.found told))
     ])

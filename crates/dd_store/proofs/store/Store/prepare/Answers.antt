@@ -1,4 +1,4 @@
-use Rattle.std.proofs.Common.{◌≡◌, ◌+◌, ◌≤◌, length, sym, ◌∙◌, ap, subst, arith}
+use Rattle.std.proofs.Common.{◌≤◌, length, sym, subst, arith}
 use Rattle.dd_model.proofs.Restored.{dirty_few}
 use Rattle.dd_store.specs.Keeping.{StoreView, IsStore, Kept}
 use Rattle.dd_store.specs.Serving.{StoreOf, Serves}

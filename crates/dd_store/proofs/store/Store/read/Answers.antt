@@ -1,16 +1,14 @@
-use Rattle.std.proofs.Common.{◌≡◌, ◌<◌, inl, inr, ℕ, List, length, false, Some, refl, sym, ◌∙◌, ap, subst, arith, replicate}
-use Rattle.std.specs.Prelude.{Option, IfOk, is_some}
+use Rattle.std.proofs.Common.{◌≡◌, ◌<◌, inl, inr, ℕ, List, length, false, Some, refl, sym, ◌∙◌, ap, subst, replicate}
+use Rattle.std.specs.Prelude.{IfOk}
 use Rattle.dd_block.specs.Geometry.{slot_count}
-use Rattle.dd_rig.specs.World.{World}
-use Rattle.dd_layout.specs.Layout.{slot_block, disk_block}
 use Rattle.dd_record.specs.declared.rec.Rec.TheVariants.{Hit}
 use Rattle.dd_record.specs.declared.row.Link.TheVariants.{Lost, Slot, Zero}
-use Rattle.dd_record.specs.Table.{b_row, is_link, link_at, is_dirty_at}
+use Rattle.dd_record.specs.Table.{is_link, link_at, is_dirty_at}
 use Rattle.dd_record.specs.Replay.{touch_of}
 use Rattle.dd_model.specs.declared.done.Done.{Done}
-use Rattle.dd_model.specs.declared.given.Block.TheVariants.{Known, Zero as ZeroBlock}
+use Rattle.dd_model.specs.declared.given.Block.TheVariants.{Known}
 use Rattle.dd_model.specs.Confirming.{candidates}
-use Rattle.dd_model.specs.Listing.{IsListing, IsGiven, touch_by}
+use Rattle.dd_model.specs.Listing.{IsGiven, touch_by}
 use Rattle.dd_model.specs.Reference.{reference, read_answer, Tells}
 use Rattle.dd_model.specs.State.{content, is_zero_block}
 use Rattle.dd_model.proofs.Records.{hit_touch, link_given}

@@ -88,12 +88,11 @@ invariant_of-self-in-Some g c =
     let acap : lists.acap ≡ i.journal.geo.acap = limits.acap ∙ ap (λ (geo : Geometry). geo.acap) (sym c.self.invariant.0) in
     let bcap : lists.bcap ≡ i.journal.geo.bcap = limits.bcap ∙ ap (λ (geo : Geometry). geo.bcap) (sym c.self.invariant.0) in
     let after : store_of i.up i.journal (g.L.Lists.listing c.refer.new.lists) (i.count + 1) c.refer.new.pending.items c.refer.new.slots.uses c.clear.new.self.items
-        ≡ referred_store (Store c.args.address c.in-Some.slot c.args.fp c.args.dirty) (touch_by c.args.address (given.Fresh (record { slot = c.in-Some.slot; fp = c.args.fp })) c.args.dirty (listing_in was)) was =
+    ≡ referred_store (Store c.args.address c.in-Some.slot c.args.fp c.args.dirty) (touch_by c.args.address (given.Fresh (record { slot = c.in-Some.slot; fp = c.args.fp })) c.args.dirty (listing_in was)) was =
     fresh_store i.up i.journal lists i.count i.pending.items i.slots.uses i.laid.items (Store c.args.address c.in-Some.slot c.args.fp c.args.dirty) c.args.address c.in-Some.slot c.args.fp c.args.dirty acap bcap
     (g.L.Lists.listing c.refer.new.lists) (i.count + 1) c.refer.new.pending.items c.refer.new.slots.uses c.clear.new.self.items
     c.refer.ensures.lists (omega arith) c.refer.ensures.pending
-    (ap (λ (v : SlotsView). v.uses) c.refer.ensures.slots ∙ ap (λ (v : SlotsView). let_go (cut_of (touch_by c.args.address (given.Fresh (record { slot = c.in-Some.slot; fp = c.args.fp })) c.args.dirty lists) lists).drop v.uses) takes.1) c.clear.ensures.items in
-    (
+    (ap (λ (v : SlotsView). v.uses) c.refer.ensures.slots ∙ ap (λ (v : SlotsView). let_go (cut_of (touch_by c.args.address (given.Fresh (record { slot = c.in-Some.slot; fp = c.args.fp })) c.args.dirty lists) lists).drop v.uses) takes.1) c.clear.ensures.items in (
       c.self.invariant.0,
       c.self.invariant.1,
       omega (arith, c.self.invariant.2, c.clear.ensures.capacity),
@@ -133,7 +132,7 @@ returns-in-Some-clause-serves g c = λ told was_it s kept printed some unknown r
     let acap : lists.acap ≡ i.journal.geo.acap = limits.acap ∙ ap (λ (geo : Geometry). geo.acap) (sym c.self.invariant.0) in
     let bcap : lists.bcap ≡ i.journal.geo.bcap = limits.bcap ∙ ap (λ (geo : Geometry). geo.bcap) (sym c.self.invariant.0) in
     let after : store_of i.up i.journal (g.L.Lists.listing c.refer.new.lists) (i.count + 1) c.refer.new.pending.items c.refer.new.slots.uses c.clear.new.self.items
-        ≡ referred_store (Store c.args.address c.in-Some.slot c.args.fp c.args.dirty) (touch_by c.args.address (given.Fresh (record { slot = c.in-Some.slot; fp = c.args.fp })) c.args.dirty (listing_in was)) was =
+    ≡ referred_store (Store c.args.address c.in-Some.slot c.args.fp c.args.dirty) (touch_by c.args.address (given.Fresh (record { slot = c.in-Some.slot; fp = c.args.fp })) c.args.dirty (listing_in was)) was =
     fresh_store i.up i.journal lists i.count i.pending.items i.slots.uses i.laid.items (Store c.args.address c.in-Some.slot c.args.fp c.args.dirty) c.args.address c.in-Some.slot c.args.fp c.args.dirty acap bcap
     (g.L.Lists.listing c.refer.new.lists) (i.count + 1) c.refer.new.pending.items c.refer.new.slots.uses c.clear.new.self.items
     c.refer.ensures.lists (omega arith) c.refer.ensures.pending
@@ -194,7 +193,7 @@ returns-in-Some-clause-rows g c =
     let acap : lists.acap ≡ i.journal.geo.acap = limits.acap ∙ ap (λ (geo : Geometry). geo.acap) (sym c.self.invariant.0) in
     let bcap : lists.bcap ≡ i.journal.geo.bcap = limits.bcap ∙ ap (λ (geo : Geometry). geo.bcap) (sym c.self.invariant.0) in
     let after : store_of i.up i.journal (g.L.Lists.listing c.refer.new.lists) (i.count + 1) c.refer.new.pending.items c.refer.new.slots.uses c.clear.new.self.items
-        ≡ referred_store (Store c.args.address c.in-Some.slot c.args.fp c.args.dirty) (touch_by c.args.address (given.Fresh (record { slot = c.in-Some.slot; fp = c.args.fp })) c.args.dirty (listing_in was)) was =
+    ≡ referred_store (Store c.args.address c.in-Some.slot c.args.fp c.args.dirty) (touch_by c.args.address (given.Fresh (record { slot = c.in-Some.slot; fp = c.args.fp })) c.args.dirty (listing_in was)) was =
     fresh_store i.up i.journal lists i.count i.pending.items i.slots.uses i.laid.items (Store c.args.address c.in-Some.slot c.args.fp c.args.dirty) c.args.address c.in-Some.slot c.args.fp c.args.dirty acap bcap
     (g.L.Lists.listing c.refer.new.lists) (i.count + 1) c.refer.new.pending.items c.refer.new.slots.uses c.clear.new.self.items
     c.refer.ensures.lists (omega arith) c.refer.ensures.pending

@@ -1,4 +1,4 @@
-use Rattle.std.proofs.Common.{◌≡◌, ◌<◌, ◌+◌, [], ◌∷◌, length, length-append, refl, sym, ◌∙◌, ap, subst, true, Some, arith}
+use Rattle.std.proofs.Common.{◌≡◌, ◌+◌, [], ◌∷◌, length, length-append, refl, sym, ◌∙◌, ap, subst, true, Some, arith}
 use Rattle.dd_block.specs.declared.geometry.Geometry.{Geometry}
 use Rattle.dd_slots.specs.Slots.{SlotsView}
 use Rattle.dd_record.specs.Spelling.{IsRec}
