@@ -10,7 +10,7 @@ use Rattle.dd_block.specs.declared.print.Fp.{Fp}
 use Rattle.dd_block.specs.Text.{block_text, text_or_zero, without_zeros}
 use Rattle.dd_model.specs.declared.kind.Kind.{Kind}
 use Rattle.dd_model.specs.declared.kind.Kind.TheVariants.{Hit, Join, Miss, Dup, New}
-use Rattle.dd_script.specs.Text.{HasNoEnd, kind_word, out_text, drop_text, read_text, small_text}
+use Rattle.dd_script.specs.Text.{HasNoEnd, kind_word, out_text, drop_text, read_text, write_text, place_text, small_text}
 
 pub both_no_end : (xs ys : List ℕ) → HasNoEnd xs → HasNoEnd ys → HasNoEnd (xs ++ ys)
 both_no_end [] ys h k = k
@@ -69,6 +69,16 @@ read_no_end kind block out drop h =
     (both_no_end (kind_word kind ++ codes " " ++ block_text block) (out_text out)
     (both_no_end (kind_word kind ++ codes " ") (block_text block)
     (both_no_end (kind_word kind) (codes " ") (kind_no_end kind) (search rules)) (block_no_end block)) h) (drop_no_end drop)
+
+pub write_no_end : (kind : Kind) (out : Option ℕ) (drop : Option Fp) → HasNoEnd (out_text out) → HasNoEnd (write_text kind out drop)
+unfolding write_text
+write_no_end kind out drop h = both_no_end (kind_word kind ++ out_text out) (drop_text drop) (both_no_end (kind_word kind) (out_text out) (kind_no_end kind) h) (drop_no_end drop)
+
+-- words and a place in a region
+pub place_no_end : (words : List ℕ) (region at : ℕ) → HasNoEnd words → region < 2 ^ 64 → at < 2 ^ 64 → HasNoEnd (words ++ place_text region at)
+place_no_end words region at h n k =
+    both_no_end words (place_text region at) h
+    (both_no_end (decimal region ++ codes " ") (decimal at) (both_no_end (decimal region) (codes " ") (decimal_no_end region n) (search rules)) (decimal_no_end at k))
 
 pub small_no_end : (device : List ℕ) (need have : ℕ) → HasNoEnd device → need < 2 ^ 64 → have < 2 ^ 64 → HasNoEnd (small_text device need have)
 small_no_end device need have h n k =

@@ -3,7 +3,8 @@ use Rattle.std.specs.Prelude.{◌≡◌, ◌≢◌, ◌⊎◌, ◌+◌, ◌-◌,
 use Rattle.dd_rig.specs.Counts.{Rose}
 use Rattle.dd_script.specs.declared.line.Line.{Line}
 use Rattle.dd_script.specs.declared.line.Line.TheVariants as line_is
-use Rattle.dd_script.specs.Command.{Command, read, quit, bad}
+use Rattle.dd_script.specs.declared.dialect.Dialect.{Dialect}
+use Rattle.dd_script.specs.Command.{Command, quit}
 use Rattle.dd_script.specs.Line.{line_room, told}
 use Rattle.dd_script.specs.Script.{is_quit, EndsWithin}
 use Rattle.dd_script.specs.declared.pieces.ScriptFault.{ScriptFault}
@@ -77,9 +78,8 @@ Spends before after fuel_before fuel_after = fuel_after + length before ≡ fuel
 -- the command that a line tells stands in front of the others, which end with a quit
 abbrev pub fronted : Option Command → List Command → List Command
 fronted None commands = commands
-fronted (Some (read address)) commands = read address ∷ commands
 fronted (Some quit) commands = quit ∷ []
-fronted (Some (bad kind)) commands = bad kind ∷ commands
+fronted (Some command) commands = command ∷ commands
 
 -- whether a line is a quit
 abbrev pub quits : Option Command → Bool
@@ -98,14 +98,14 @@ Bounds line before after = (before → after) × (after → before)
 
 -- A script that ends within its first n bytes has its first line within them, and where that is no quit the lines behind it end
 -- within as many less.
-abbrev pub Passes : ℕ → Line → List ℕ → List ℕ → Type 0
-Passes blocks line before after =
-    (n : ℕ) → EndsWithin n blocks before → (length before ≤ n + length after) × (quits (told line) ≡ false → EndsWithin (n + length after - length before) blocks after)
+abbrev pub Passes : Dialect → Line → List ℕ → List ℕ → Type 0
+Passes dialect line before after =
+    (n : ℕ) → EndsWithin n dialect before → (length before ≤ n + length after) × (quits (told [] line) ≡ false → EndsWithin (n + length after - length before) dialect after)
 
 -- No more than a piece is taken behind the end of a script, or behind its quit: one that ends within its first n bytes has at most
 -- so many more taken.
-abbrev pub IsTakenTo : ℕ → List ℕ → List ℕ → Type 0
-IsTakenTo blocks script rest = (n : ℕ) → EndsWithin n blocks script → length script ≤ length rest + (n + piece_size)
+abbrev pub IsTakenTo : Dialect → List ℕ → List ℕ → Type 0
+IsTakenTo dialect script rest = (n : ℕ) → EndsWithin n dialect script → length script ≤ length rest + (n + piece_size)
 
 -- why a script can't be read on: a take failed, or this, which says that it is too long
 abbrev pub Fails : Type 0 → ScriptFault → (failed_before failed_after : ℕ) → Type 0

@@ -1,8 +1,12 @@
 -- The text of each line of output, without its LF.
-use Rattle.std.specs.Prelude.{◌≡◌, ℕ, ◌==◌, false, List, [], ◌∷◌, ◌++◌, take, Option, Some, None, codes, decimal}
+use Rattle.std.specs.Prelude.{◌≡◌, ℕ, ◌==◌, false, List, [], ◌∷◌, ◌++◌, take, Option, Some, None, option_map, codes, decimal}
 use Rattle.hex.specs.Hex.{encode_lower}
 use Rattle.dd_block.specs.declared.print.Fp.{Fp}
 use Rattle.dd_block.specs.Text.{block_text}
+use Rattle.dd_block.specs.declared.geometry.GeometryFault.{GeometryFault}
+use Rattle.dd_block.specs.declared.geometry.GeometryFault.TheVariants as number
+use Rattle.dd_layout.specs.declared.superblock.SuperFault.{SuperFault}
+use Rattle.dd_layout.specs.declared.superblock.SuperFault.TheVariants as super
 use Rattle.dd_rig.specs.declared.device.Dev.{Dev}
 use Rattle.dd_rig.specs.declared.device.Dev.TheVariants as dev
 use Rattle.dd_model.specs.declared.kind.Kind.{Kind}
@@ -49,10 +53,24 @@ drop_text (Some fp) = codes " drop " ++ encode_lower (take 8 fp.0)
 unfoldable pub read_text : Kind → List ℕ → Option ℕ → Option Fp → List ℕ
 read_text kind block out drop = kind_word kind ++ codes " " ++ block_text block ++ out_text out ++ drop_text drop
 
+-- the reply to a write
+unfoldable pub write_text : Kind → Option ℕ → Option Fp → List ℕ
+write_text kind out drop = kind_word kind ++ out_text out ++ drop_text drop
+
+abbrev pub flushed_text : ℕ → List ℕ
+flushed_text count = codes "flushed " ++ decimal count
+
+abbrev pub cleaned_text : List ℕ
+cleaned_text = codes "cleaned"
+
+abbrev pub ticked_text : List ℕ
+ticked_text = codes "ticked"
+
 abbrev pub bad_text : BadKind → List ℕ
 bad_text bad.Long = codes "bad long"
 bad_text bad.Word = codes "bad word"
 bad_text bad.Address = codes "bad address"
+bad_text (bad.Text fault) = codes "bad data"
 bad_text bad.Rest = codes "bad rest"
 
 abbrev pub fault_text : Dev → List ℕ
@@ -73,14 +91,46 @@ stop_text stop.Memory = codes "stopped memory"
 abbrev pub small_text : List ℕ → ℕ → ℕ → List ℕ
 small_text device need have = codes "refused " ++ device ++ codes " small " ++ decimal need ++ codes " " ++ decimal have
 
+-- a number of a geometry is out of its range
+abbrev pub number_text : GeometryFault → List ℕ
+number_text (number.Block value) = codes "block " ++ decimal value
+number_text (number.Blocks value) = codes "blocks " ++ decimal value
+number_text (number.Acap value) = codes "acap " ++ decimal value
+number_text (number.Bcap value) = codes "bcap " ++ decimal value
+number_text (number.Spare value) = codes "spare " ++ decimal value
+number_text (number.Group value) = codes "group " ++ decimal value
+number_text (number.Log value) = codes "log " ++ decimal value
+
+-- the check that a superblock breaks
+abbrev pub super_fault_text : SuperFault → List ℕ
+super_fault_text (super.Gate value) = codes "gate " ++ decimal value
+super_fault_text super.Magic = codes "magic"
+super_fault_text (super.Version value) = codes "version " ++ decimal value
+super_fault_text (super.Geometry fault) = codes "geometry " ++ number_text fault
+super_fault_text (super.Padding at) = codes "padding " ++ decimal at
+
+-- a place of a region
+abbrev pub place_text : (region at : ℕ) → List ℕ
+place_text region at = decimal region ++ codes " " ++ decimal at
+
 abbrev pub refusal_text : Refusal → List ℕ
 refusal_text refusal.Words = codes "refused words"
 refusal_text (refusal.FlashSmall need have) = small_text (codes "flash") need have
 refusal_text (refusal.DiskSmall need have) = small_text (codes "disk") need have
 refusal_text refusal.InUse = codes "refused in use"
+refusal_text (refusal.Super fault) = codes "refused super " ++ super_fault_text fault
+refusal_text refusal.NoRegion = codes "refused no region"
+refusal_text (refusal.Snapshot region at) = codes "refused snapshot " ++ place_text region at
+refusal_text (refusal.Group region at) = codes "refused group " ++ place_text region at
+refusal_text (refusal.Worn value) = codes "refused worn " ++ decimal value
+refusal_text refusal.Version1 = codes "refused version 1"
 
 -- the line of a reply
 abbrev pub reply_text : Reply → List ℕ
+reply_text (reply.Write done) = write_text done.kind done.cut.out (option_map (λ row. row.fp) done.cut.drop)
+reply_text (reply.Flushed count) = flushed_text count
+reply_text reply.Cleaned = cleaned_text
+reply_text reply.Ticked = ticked_text
 reply_text (reply.Bad kind) = bad_text kind
 reply_text (reply.Fault device) = fault_text device
 reply_text (reply.Bye count) = bye_text count

@@ -5,6 +5,7 @@
 //! the script, and takes little behind the line that ends it. Memory is taken by `Reader::new` alone.
 #![tactic(auto)]
 
+mod dialect;
 mod line;
 mod number;
 mod pieces;
@@ -12,6 +13,7 @@ mod reader;
 mod reply;
 mod text;
 
+pub use dialect::Dialect;
 pub use line::{BadKind, Line, parse};
 pub use number::{number_below, number_of};
 pub use pieces::ScriptFault;

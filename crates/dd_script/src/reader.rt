@@ -4,6 +4,7 @@ ghost use Rattle.dd_script.specs.Line.{line_room, told, IsBelow};
 ghost use Rattle.dd_script.specs.Reading.{left, fuel, piece_size, fronted, BurnsUnlessQuit, Bounds, Passes, Fails};
 ghost use Rattle.dd_script.specs.Script.{commands_of, EndsWithin};
 
+use crate::Dialect;
 use crate::line::{Line, parse};
 use crate::pieces::{LINE_ROOM, Pieces, ScriptFault};
 use dd_rig::Source;
@@ -41,19 +42,25 @@ impl Reader {
         })
     }
 
-    /// What the next line says, where addresses lie below `blocks`. At the end of the script that is
-    /// a q. Behind the line no more than one piece of 4,096 bytes is taken.
-    pub fn next<S: Source>(&mut self, source: &mut S, blocks: u32) -> Result<Line, ScriptFault>
-        ensures command { S.tells → IfOk result (λ line. commands_of blocks (left self.old (S.rest source.old)) ≡ fronted (told line) (commands_of blocks (left self.new (S.rest source.new)))) }
-        ensures bounds { S.tells → IfOk result (λ line. Bounds line (EndsWithin (fuel self.old) blocks (left self.old (S.rest source.old))) (EndsWithin (fuel self.new) blocks (left self.new (S.rest source.new)))) }
-        ensures passes { S.tells → IfOk result (λ line. Passes blocks line (left self.old (S.rest source.old)) (left self.new (S.rest source.new))) }
+    /// What the next line says, in a dialect. A write leaves its block in the buffer. At the end of
+    /// the script the line is a q. Behind it no more than one piece of 4,096 bytes is taken.
+    pub fn next<S: Source>(
+        &mut self,
+        source: &mut S,
+        dialect: Dialect,
+        into: &mut [u8],
+    ) -> Result<Line, ScriptFault>
+        requires { length into.old ≡ dialect.block }
+        ensures command { S.tells → IfOk result (λ line. commands_of dialect (left self.old (S.rest source.old)) ≡ fronted (told into.new line) (commands_of dialect (left self.new (S.rest source.new)))) }
+        ensures bounds { S.tells → IfOk result (λ line. Bounds line (EndsWithin (fuel self.old) dialect (left self.old (S.rest source.old))) (EndsWithin (fuel self.new) dialect (left self.new (S.rest source.new)))) }
+        ensures passes { S.tells → IfOk result (λ line. Passes dialect line (left self.old (S.rest source.old)) (left self.new (S.rest source.new))) }
         ensures piece { OnOk result (length self.new.bytes ≤ piece_size) }
-        ensures below { IfOk result (λ line. IsBelow blocks line) }
+        ensures below { IfOk result (λ line. IsBelow dialect.blocks line) }
         ensures fuel { IfOk result (λ line. BurnsUnlessQuit line (fuel self.old) (fuel self.new)) }
         ensures later { S.failures source.old ≤ S.failures source.new }
-        ensures fault { IfErr result (λ fault. Fails (S.tells → EndsWithin (fuel self.old) blocks (left self.old (S.rest source.old)) → ⊥) fault (S.failures source.old) (S.failures source.new)) }
+        ensures fault { IfErr result (λ fault. Fails (S.tells → EndsWithin (fuel self.old) dialect (left self.old (S.rest source.old)) → ⊥) fault (S.failures source.old) (S.failures source.new)) }
     {
-        next_of(&mut self.pieces, &mut self.line, source, blocks)
+        next_of(&mut self.pieces, &mut self.line, source, dialect, into)
     }
 }
 
@@ -62,20 +69,22 @@ fn next_of<S: Source>(
     pieces: &mut Pieces,
     line: &mut [u8],
     source: &mut S,
-    blocks: u32,
+    dialect: Dialect,
+    into: &mut [u8],
 ) -> Result<Line, ScriptFault>
     requires room { length line.old ≡ line_room }
-    ensures command { S.tells → IfOk result (λ line. commands_of blocks (left pieces.old (S.rest source.old)) ≡ fronted (told line) (commands_of blocks (left pieces.new (S.rest source.new)))) }
-    ensures bounds { S.tells → IfOk result (λ line. Bounds line (EndsWithin (fuel pieces.old) blocks (left pieces.old (S.rest source.old))) (EndsWithin (fuel pieces.new) blocks (left pieces.new (S.rest source.new)))) }
-    ensures passes { S.tells → IfOk result (λ line. Passes blocks line (left pieces.old (S.rest source.old)) (left pieces.new (S.rest source.new))) }
+    requires block { length into.old ≡ dialect.block }
+    ensures command { S.tells → IfOk result (λ line. commands_of dialect (left pieces.old (S.rest source.old)) ≡ fronted (told into.new line) (commands_of dialect (left pieces.new (S.rest source.new)))) }
+    ensures bounds { S.tells → IfOk result (λ line. Bounds line (EndsWithin (fuel pieces.old) dialect (left pieces.old (S.rest source.old))) (EndsWithin (fuel pieces.new) dialect (left pieces.new (S.rest source.new)))) }
+    ensures passes { S.tells → IfOk result (λ line. Passes dialect line (left pieces.old (S.rest source.old)) (left pieces.new (S.rest source.new))) }
     ensures piece { OnOk result (length pieces.new.bytes ≤ piece_size) }
-    ensures below { IfOk result (λ line. IsBelow blocks line) }
+    ensures below { IfOk result (λ line. IsBelow dialect.blocks line) }
     ensures fuel { IfOk result (λ line. BurnsUnlessQuit line (fuel pieces.old) (fuel pieces.new)) }
     ensures later { S.failures source.old ≤ S.failures source.new }
-    ensures fault { IfErr result (λ fault. Fails (S.tells → EndsWithin (fuel pieces.old) blocks (left pieces.old (S.rest source.old)) → ⊥) fault (S.failures source.old) (S.failures source.new)) }
+    ensures fault { IfErr result (λ fault. Fails (S.tells → EndsWithin (fuel pieces.old) dialect (left pieces.old (S.rest source.old)) → ⊥) fault (S.failures source.old) (S.failures source.new)) }
 {
     match pieces.next_line(source, line)? {
         None => Ok(Line::Quit),
-        Some(size) => Ok(parse(&line[..size], blocks)),
+        Some(size) => Ok(parse(&line[..size], dialect, into)),
     }
 }

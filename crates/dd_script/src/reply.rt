@@ -1,6 +1,8 @@
-// What a line of output says, but for those that show a block.
+// What a line of output says, but for the answer to a read.
 
 use crate::BadKind;
+use dd_layout::SuperFault;
+use dd_model::Done;
 use dd_rig::Dev;
 
 /// Why a run stopped before the end of its script.
@@ -29,11 +31,31 @@ pub enum Refusal {
     DiskSmall { need: u64, have: u64 },
     /// The flash is in use: its byte 0 is 1.
     InUse,
+    /// The flash has no superblock.
+    Super(SuperFault),
+    /// Neither region of the flash is open.
+    NoRegion,
+    /// The snapshot of a region is damaged at that place of the flash.
+    Snapshot { region: u32, at: u64 },
+    /// The log of a region is damaged at that place of the flash.
+    Group { region: u32, at: u64 },
+    /// The epoch or the count is 2^62 or greater.
+    Worn { value: u64 },
+    /// The flash is of version 1.
+    Version1,
 }
 
 /// A line of output.
 #[derive(Clone, Copy, Debug, PartialEq, Eq)]
 pub enum Reply {
+    /// A write was done.
+    Write(Done),
+    /// So many references are committed.
+    Flushed(u64),
+    /// No address is dirty.
+    Cleaned,
+    /// The address that had become dirty longest ago isn't dirty, where one was.
+    Ticked,
     /// The line is no command.
     Bad(BadKind),
     /// A read of that device failed, and nothing has changed.

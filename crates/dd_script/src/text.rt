@@ -2,10 +2,13 @@
 ghost use Rattle.std.specs.Prelude.{◌≡◌, ◌+◌, ◌*◌, ◌≤◌, ◌++◌, [], length, take, codes, decimal, option_map};
 ghost use Rattle.dd_block.specs.Text.{block_text};
 ghost use Rattle.dd_script.specs.declared.reply.Reply.TheVariants.{Bad, Fault, Stopped};
-ghost use Rattle.dd_script.specs.Text.{reply_room, HasNoEnd, ended, kind_word, out_text, drop_text, read_text, bye_text, reply_text, refusal_text, small_text};
+ghost use Rattle.dd_script.specs.declared.reply.Refusal.TheVariants.{Super};
+ghost use Rattle.dd_layout.specs.declared.superblock.SuperFault.TheVariants as super;
+ghost use Rattle.dd_script.specs.Text.{reply_room, HasNoEnd, ended, kind_word, out_text, drop_text, read_text, write_text, reply_text, refusal_text, place_text, small_text};
 
 use crate::{BadKind, Refusal, Reply, Stop};
-use dd_block::{Fp, write_block_text};
+use dd_block::{Fp, GeometryFault, write_block_text};
+use dd_layout::SuperFault;
 use dd_model::{Done, Kind};
 use dd_record::BRow;
 use dd_rig::Dev;
@@ -39,24 +42,44 @@ pub fn write_reply(reply: Reply, into: &mut [u8]) -> usize
     ensures fits { result ≤ reply_room }
 {
     match reply {
+        Reply::Write(done) => write_done(done, into),
+        Reply::Flushed(count) => write_number(b"flushed ", count, into),
+        Reply::Cleaned => put(into, 0, b"cleaned\n"),
+        Reply::Ticked => put(into, 0, b"ticked\n"),
         Reply::Bad(kind) => put(into, 0, bad_line(kind)),
         Reply::Fault(dev) => put(into, 0, fault_line(dev)),
-        Reply::Bye(count) => write_bye(count, into),
+        Reply::Bye(count) => write_number(b"bye ", count, into),
         Reply::Stopped(why) => put(into, 0, stopped_line(why)),
         Reply::Refused(why) => write_refusal(why, into),
         Reply::Formatted => put(into, 0, b"formatted\n"),
     }
 }
 
-fn write_bye(count: u64, into: &mut [u8]) -> usize
+// The line that answers a write.
+fn write_done(done: Done, into: &mut [u8]) -> usize
     requires { length into.old ≡ reply_room }
-    ensures text { take result into.new ≡ ended (bye_text count) }
-    ensures line { HasNoEnd (bye_text count) }
+    ensures text { take result into.new ≡ ended (write_text done.kind done.cut.out (option_map (λ row. row.fp) done.cut.drop)) }
+    ensures line { HasNoEnd (write_text done.kind done.cut.out (option_map (λ row. row.fp) done.cut.drop)) }
     ensures fits { result ≤ reply_room }
 {
-    let word = put(into, 0, b"bye ");
-    let number = put_number(into, word, count);
-    put(into, number, b"\n")
+    let kind = put(into, 0, kind_name(done.kind));
+    let out = put_out(into, kind, done.cut.out);
+    let drop = put_drop(into, out, print_of(done.cut.drop));
+    put(into, drop, b"\n")
+}
+
+// Words and a number.
+fn write_number(words: &[u8], number: u64, into: &mut [u8]) -> usize
+    requires room { length into.old ≡ reply_room }
+    requires short { length words.now ≤ 100 }
+    requires line { HasNoEnd words.now }
+    ensures text { take result into.new ≡ ended (words.now ++ decimal number) }
+    ensures line { HasNoEnd (words.now ++ decimal number) }
+    ensures fits { result ≤ reply_room }
+{
+    let front = put(into, 0, words);
+    let digits = put_number(into, front, number);
+    put(into, digits, b"\n")
 }
 
 fn write_refusal(why: Refusal, into: &mut [u8]) -> usize
@@ -70,7 +93,65 @@ fn write_refusal(why: Refusal, into: &mut [u8]) -> usize
         Refusal::FlashSmall { need, have } => write_small(b"flash", need, have, into),
         Refusal::DiskSmall { need, have } => write_small(b"disk", need, have, into),
         Refusal::InUse => put(into, 0, b"refused in use\n"),
+        Refusal::Super(fault) => write_super(fault, into),
+        Refusal::NoRegion => put(into, 0, b"refused no region\n"),
+        Refusal::Snapshot { region, at } => write_place(b"refused snapshot ", region, at, into),
+        Refusal::Group { region, at } => write_place(b"refused group ", region, at, into),
+        Refusal::Worn { value } => write_number(b"refused worn ", value, into),
+        Refusal::Version1 => put(into, 0, b"refused version 1\n"),
     }
+}
+
+// The line of a superblock that breaks a check.
+fn write_super(fault: SuperFault, into: &mut [u8]) -> usize
+    requires { length into.old ≡ reply_room }
+    ensures text { take result into.new ≡ ended (refusal_text (Super fault)) }
+    ensures line { HasNoEnd (refusal_text (Super fault)) }
+    ensures fits { result ≤ reply_room }
+{
+    match fault {
+        SuperFault::Gate(value) => write_number(b"refused super gate ", u64::from(value), into),
+        SuperFault::Magic => put(into, 0, b"refused super magic\n"),
+        SuperFault::Version(value) => {
+            write_number(b"refused super version ", u64::from(value), into)
+        }
+        SuperFault::Geometry(fault) => write_geometry(fault, into),
+        SuperFault::Padding(at) => write_number(b"refused super padding ", u64::from(at), into),
+    }
+}
+
+// The line of a geometry that has a number out of its range.
+fn write_geometry(fault: GeometryFault, into: &mut [u8]) -> usize
+    requires { length into.old ≡ reply_room }
+    ensures text { take result into.new ≡ ended (refusal_text (Super (super.Geometry fault))) }
+    ensures line { HasNoEnd (refusal_text (Super (super.Geometry fault))) }
+    ensures fits { result ≤ reply_room }
+{
+    match fault {
+        GeometryFault::Block(value) => write_number(b"refused super geometry block ", u64::from(value), into),
+        GeometryFault::Blocks(value) => write_number(b"refused super geometry blocks ", u64::from(value), into),
+        GeometryFault::Acap(value) => write_number(b"refused super geometry acap ", u64::from(value), into),
+        GeometryFault::Bcap(value) => write_number(b"refused super geometry bcap ", u64::from(value), into),
+        GeometryFault::Spare(value) => write_number(b"refused super geometry spare ", u64::from(value), into),
+        GeometryFault::Group(value) => write_number(b"refused super geometry group ", u64::from(value), into),
+        GeometryFault::Log(value) => write_number(b"refused super geometry log ", u64::from(value), into),
+    }
+}
+
+// Words, and a place in a region.
+fn write_place(words: &[u8], region: u32, at: u64, into: &mut [u8]) -> usize
+    requires room { length into.old ≡ reply_room }
+    requires short { length words.now ≤ 100 }
+    requires line { HasNoEnd words.now }
+    ensures text { take result into.new ≡ ended (words.now ++ place_text region at) }
+    ensures line { HasNoEnd (words.now ++ place_text region at) }
+    ensures fits { result ≤ reply_room }
+{
+    let front = put(into, 0, words);
+    let first = put_number(into, front, u64::from(region));
+    let space = put(into, first, b" ");
+    let second = put_number(into, space, at);
+    put(into, second, b"\n")
 }
 
 fn write_small(device: &[u8], need: u64, have: u64, into: &mut [u8]) -> usize
@@ -98,6 +179,7 @@ fn bad_line(kind: BadKind) -> &'static [u8]
         BadKind::Long => b"bad long\n",
         BadKind::Word => b"bad word\n",
         BadKind::Address => b"bad address\n",
+        BadKind::Text(_) => b"bad data\n",
         BadKind::Rest => b"bad rest\n",
     }
 }
