@@ -1,0 +1,5 @@
+pub mod Terms
+pub mod Standing
+pub mod Answering
+pub mod Serving
+pub mod Halting
