@@ -5,3 +5,4 @@ pub mod Standing
 pub mod Answering
 pub mod Reading
 pub mod Taken
+pub mod FaultLines

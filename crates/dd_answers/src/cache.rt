@@ -1,0 +1,68 @@
+// A store as what answers a line.
+use crate::lines::write_answer;
+use dd_block::Fingerprint;
+use dd_loop::{Cache, Halt, Written};
+use dd_model::Lists;
+use dd_rig::Rig;
+use dd_script::{Dialect, Line};
+use dd_store::Store;
+
+/// A store that answers the lines of a script.
+#[derive(Drop)]
+pub struct StoreCache<F: Fingerprint, L: Lists> {
+    pub store: Store<F, L>,
+}
+
+impl<F: Fingerprint, L: Lists, R: Rig> Cache<R> for StoreCache<F, L> {
+    ghost use Rattle.std.specs.Prelude.{◌≡◌};
+    ghost use Rattle.dd_store.specs.Keeping.{Kept};
+    ghost use Rattle.dd_answers.specs.Answering.{store_terms, MayAnswer, StandsBy};
+    ghost use Rattle.dd_answers.specs.Laws.{kept_unsaid, answers_fewer};
+
+    ghost terms = { λ c. store_terms (F.printed c.store.print) c.store.store };
+
+    ghost ready = { λ c lines size. MayAnswer c.store.store lines size };
+
+    ghost kept = { λ c first now committed held. Kept (F.printed c.store.print) c.store.store now committed held };
+
+    ghost stands = { λ terms first flash disk s. StandsBy terms.print flash disk s };
+
+    ghost costs = { λ old new lines more before after. Unit {0} };
+
+    ghost stops = { λ device. Unit {0} };
+
+    fn dialect(&self) -> Dialect {
+        let geo = self.store.geometry();
+        Dialect {
+            reads_only: false,
+            blocks: geo.blocks,
+            block: geo.block,
+        }
+    }
+
+    fn answer(
+        &mut self,
+        rig: &mut R,
+        line: Line,
+        block: &mut [u8],
+        text: &mut [u8],
+    ) -> Result<Option<Written>, Halt> {
+        write_answer(&mut self.store, rig, line, block, text)
+    }
+
+    ghost stood = { λ c first now committed held kept. kept.stands };
+
+    ghost unsaid = { λ c first old new committed held flash disk kept. kept_unsaid (F.printed c.store.print) c.store.store old new committed held flash disk kept };
+
+    ghost fewer = { λ c n m size le ready. answers_fewer c.store.store n m size le ready };
+
+    ghost free = { λ c counts. tt };
+
+    ghost sums = { λ one two three lines others more p q r h k. tt };
+
+    ghost idle = { λ one two lines more p q r flash disk h. tt };
+
+    ghost cut = { λ one two line p q h. tt };
+
+    ghost begun = { λ one two lines p q h. tt };
+}
