@@ -29,6 +29,10 @@ impl<F: Fingerprint, L: Lists, R: Rig> Cache<R> for StoreCache<F, L> {
 
     ghost costs = { λ old new lines more before after. Unit {0} };
 
+    ghost does = { λ before after. Unit {0} };
+
+    ghost leaves = { λ old new. Unit {0} };
+
     ghost stops = { λ device. Unit {0} };
 
     fn dialect(&self) -> Dialect {
@@ -65,4 +69,16 @@ impl<F: Fingerprint, L: Lists, R: Rig> Cache<R> for StoreCache<F, L> {
     ghost cut = { λ one two line p q h. tt };
 
     ghost begun = { λ one two lines p q h. tt };
+
+    ghost does_none = { λ counts. tt };
+
+    ghost does_both = { λ p q r h k. tt };
+
+    ghost does_said = { λ p q r flash disk h. tt };
+
+    ghost leaves_all = { λ world. tt };
+
+    ghost leaves_both = { λ one two three h k. tt };
+
+    ghost leaves_said = { λ one two three flash disk h. tt };
 }

@@ -3,3 +3,5 @@ pub mod Standing
 pub mod Answering
 pub mod Serving
 pub mod Halting
+pub mod Ending
+pub mod Saying

@@ -51,6 +51,12 @@ pub trait Cache<R: Rig> {
     /// the counts, in front of them and behind them.
     ghost costs: { (old new : Self) → (lines : List (List ℕ)) → (more : ℕ) → (before after : Counts) → Type 0 };
 
+    /// How often an answer may call the devices, on every rig.
+    ghost does: { (before after : Counts) → Type 0 };
+
+    /// What an answer leaves of the devices, whether it is one or a halt.
+    ghost leaves: { (old new : World) → Type 0 };
+
     /// The devices for whose failed writes it may stop.
     ghost stops: { Dev → Type 0 };
 
@@ -81,6 +87,8 @@ pub trait Cache<R: Rig> {
         ensures halt { R.tells → (first : World) (c s : State) → kept self.old first (R.world rig.old) c s
             → IfErr result (λ halt. AllStandForEither (stands (terms self.old) first) c s (R.world rig.new) × costs self.old self.new [] 1 (R.counts rig.old) (R.counts rig.new)) }
         ensures cause { IfErr result (λ halt. HaltsByDevice stops halt (R.counts rig.old) (R.counts rig.new)) }
+        ensures does { does (R.counts rig.old) (R.counts rig.new) }
+        ensures leaves { R.tells → leaves (R.world rig.old) (R.world rig.new) }
         ensures said { R.tells → (R.world rig.new).said ≡ (R.world rig.old).said }
         ensures room { IfOk result (λ written. IfSome written (λ w. w.size ≤ reply_room)) }
         ensures ready { (n : ℕ) → ready self.old (n + 1) (R.device_size rig.old) → OnOk result (ready self.new n (R.device_size rig.new)) }
@@ -110,4 +118,18 @@ pub trait Cache<R: Rig> {
 
     /// The beginning of a line more costs no less.
     ghost begun: { (one two : Self) (lines : List (List ℕ)) (p q : Counts) → costs one two lines 0 p q → costs one two lines 1 p q };
+
+    /// Nothing, and one answer after another, and saying something: each does what an answer does.
+    ghost does_none: { (counts : Counts) → does counts counts };
+
+    ghost does_both: { (p q r : Counts) → does p q → does q r → does p r };
+
+    ghost does_said: { (p q r : Counts) → r.flash ≡ q.flash → r.disk ≡ q.disk → does p q → does p r };
+
+    /// And leaves what an answer leaves.
+    ghost leaves_all: { (world : World) → leaves world world };
+
+    ghost leaves_both: { (one two three : World) → leaves one two → leaves two three → leaves one three };
+
+    ghost leaves_said: { (one two three : World) → three.flash ≡ two.flash → three.disk ≡ two.disk → leaves one two → leaves one three };
 }

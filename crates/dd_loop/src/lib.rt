@@ -9,9 +9,11 @@
 #![tactic(auto)]
 
 mod cache;
+mod ending;
 mod halt;
 mod serving;
 
 pub use cache::{Cache, Written};
+pub use ending::{Ending, finish};
 pub use halt::Halt;
 pub use serving::{say, serve_lines};

@@ -48,6 +48,8 @@ pub fn serve_lines<R: Rig, C: Cache<R>, S: Source>(
     ensures bounded { S.tells → OnOk result (EndsWithin (fuel reader.old) (dialect_in (C.terms cache.old)) (left reader.old (S.rest source.old))) }
     ensures halt { IfErr result (λ halt. Halts C.stops (Rose (S.failures source.old) (S.failures source.new))
         (S.tells → EndsWithin (fuel reader.old) (dialect_in (C.terms cache.old)) (left reader.old (S.rest source.old)) → ⊥) halt (R.counts rig.old) (R.counts rig.new)) }
+    ensures does { C.does (R.counts rig.old) (R.counts rig.new) }
+    ensures leaves { R.tells → C.leaves (R.world rig.old) (R.world rig.new) }
     ensures same { C.terms cache.new ≡ C.terms cache.old }
     ensures frame { Frame (R.counts rig.old) (R.counts rig.new) (R.device_size rig.old) (R.device_size rig.new) }
 {
@@ -105,6 +107,8 @@ fn answer_line<R: Rig, C: Cache<R>>(
         (Pays (C.costs cache.old cache.new) (R.counts rig.old) (R.counts rig.new)) halt c s (told block.old line) (R.world rig.old) (R.world rig.new)) }
     ensures ready { (n : ℕ) → C.ready cache.old (n + 1) (R.device_size rig.old) → OnOk result (C.ready cache.new n (R.device_size rig.new)) }
     ensures halt { IfErr result (λ halt. Halts C.stops ⊥ ⊥ halt (R.counts rig.old) (R.counts rig.new)) }
+    ensures does { C.does (R.counts rig.old) (R.counts rig.new) }
+    ensures leaves { R.tells → C.leaves (R.world rig.old) (R.world rig.new) }
     ensures same { C.terms cache.new ≡ C.terms cache.old }
     ensures frame { Frame (R.counts rig.old) (R.counts rig.new) (R.device_size rig.old) (R.device_size rig.new) }
 {

@@ -38,6 +38,8 @@ lines-init g c = record {
   ready = c.requires.ready;
   falls = falls_self (g.R.Rig.counts c.args.rig.now);
   size = refl;
+  does = g.met.C.Cache.does_none (g.R.Rig.counts c.args.rig.now);
+  leaves = λ t. g.met.C.Cache.leaves_all (g.R.Rig.world c.args.rig.now);
   later = omega arith;
   bounds = λ u h. h;
   bounds_back = λ u h. h;
@@ -254,6 +256,8 @@ lines-preserved g c =
           (g.met.C.Cache.fewer c.lines.cache (fuel c.lines.reader + 1) (fuel c.next.new.self + 1 + 1) (g.R.Rig.device_size c.lines.rig) (omega (arith, burns)) c.lines.invariant.ready);
       falls = falls_trans _ _ _ c.lines.invariant.falls c.answer_line.ensures.frame.0;
       size = c.answer_line.ensures.frame.1 ∙ c.lines.invariant.size;
+      does = g.met.C.Cache.does_both _ _ _ c.lines.invariant.does c.answer_line.ensures.does;
+      leaves = λ t. g.met.C.Cache.leaves_both _ _ _ (c.lines.invariant.leaves t) (c.answer_line.ensures.leaves t);
       later = omega (arith, c.lines.invariant.later, c.next.ensures.later);
       bounds = λ u h. c.lines.invariant.bounds u ((bounds u).1 h);
       bounds_back = λ u h. (bounds u).0 (c.lines.invariant.bounds_back u h);
@@ -269,3 +273,15 @@ returns-then-is_quit-clause-taken g c = λ u.
     let next : List ℕ = left c.next.new.self (rest c.next.new.source) in
     taken_to dialect c.in-Ok.line (left c.args.reader.now (rest c.args.source.now)) now (rest c.next.new.source) c.next.new.self (c.lines.invariant.passes u)
     (passes_for c.dialect-dialect.result dialect c.in-Ok.line now next c.dialect-dialect.ensures.dialect (c.in-Ok.ensures.passes u)) c.in-Ok.ensures.piece
+
+pub returns-in_err-failed-clause-does : goal.returns-in_err-failed-clause-does
+returns-in_err-failed-clause-does g c = g.met.C.Cache.does_both _ _ _ c.lines.invariant.does c.answer_line.ensures.does
+
+pub returns-in_err-failed-clause-leaves : goal.returns-in_err-failed-clause-leaves
+returns-in_err-failed-clause-leaves g c = λ t. g.met.C.Cache.leaves_both _ _ _ (c.lines.invariant.leaves t) (c.answer_line.ensures.leaves t)
+
+pub returns-then-is_quit-clause-does : goal.returns-then-is_quit-clause-does
+returns-then-is_quit-clause-does g c = g.met.C.Cache.does_both _ _ _ c.lines.invariant.does c.answer_line.ensures.does
+
+pub returns-then-is_quit-clause-leaves : goal.returns-then-is_quit-clause-leaves
+returns-then-is_quit-clause-leaves g c = λ t. g.met.C.Cache.leaves_both _ _ _ (c.lines.invariant.leaves t) (c.answer_line.ensures.leaves t)

@@ -1,0 +1,58 @@
+-- How a run ends: its status, and the line that says why.
+use Rattle.std.specs.Prelude.{◌≡◌, ℕ, true, false, List, Option, Some, None}
+use Rattle.dd_rig.specs.declared.tallies.Counts.{Counts}
+use Rattle.dd_rig.specs.World.{World, Outcome, WithinEmit}
+use Rattle.dd_script.specs.declared.reply.Refusal.{Refusal}
+use Rattle.dd_script.specs.declared.reply.Refusal.TheVariants as refusal
+use Rattle.dd_script.specs.declared.reply.Stop.{Stop}
+use Rattle.dd_script.specs.declared.reply.Stop.TheVariants as stop
+use Rattle.dd_script.specs.Text.{ended, refusal_text, stop_text}
+use Rattle.dd_loop.specs.declared.ending.Ending.{Ending}
+use Rattle.dd_loop.specs.declared.ending.Ending.TheVariants.{Served, Refused, Stopped, Unheard}
+use Rattle.dd_loop.specs.Saying.{SaysAlone}
+
+-- the status of a run that was refused
+abbrev pub refused_status : Refusal → ℕ
+refused_status refusal.Words = 2
+refused_status (refusal.FlashSmall need have) = 3
+refused_status (refusal.DiskSmall need have) = 3
+refused_status refusal.InUse = 3
+refused_status (refusal.Super fault) = 3
+refused_status refusal.NoRegion = 3
+refused_status (refusal.Snapshot region at) = 3
+refused_status (refusal.Group region at) = 3
+refused_status (refusal.Worn value) = 3
+refused_status refusal.Version1 = 3
+
+-- the status of a run that stops
+abbrev pub stopped_status : Stop → ℕ
+stopped_status stop.Memory = 4
+stopped_status stop.Script = 5
+stopped_status stop.Flash = 7
+stopped_status stop.Disk = 7
+stopped_status stop.Length = 8
+
+-- the status of each ending: 1 says that a read failed, and its command was answered so
+abbrev pub status_of : Ending → ℕ
+status_of (Served false) = 0
+status_of (Served true) = 1
+status_of (Refused why) = refused_status why
+status_of (Stopped why) = stopped_status why
+status_of Unheard = 6
+
+-- the line that says why, where there is one
+abbrev pub ending_line : Ending → Option (List ℕ)
+ending_line (Served faulted) = None
+ending_line (Refused why) = Some (refusal_text why)
+ending_line (Stopped why) = Some (stop_text why)
+ending_line Unheard = None
+
+-- that line is the last that is said; without one nothing is said
+abbrev pub SaysLast : Option (List ℕ) → Counts → Counts → World → World → Type 0
+SaysLast None before after old new = new.said ≡ old.said
+SaysLast (Some line) before after old new = SaysAlone line before after old new
+
+-- a crash within that line
+abbrev pub WithinLast : Option (List ℕ) → World → Outcome → Type 0
+WithinLast None old o = ⊥
+WithinLast (Some line) old o = WithinEmit (ended line) old o

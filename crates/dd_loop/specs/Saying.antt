@@ -1,0 +1,20 @@
+-- What a run has said and asked of its devices.
+use Rattle.std.specs.Prelude.{◌≡◌, ◌⊎◌, ℕ, List, ◌++◌, take}
+use Rattle.dd_rig.specs.declared.tallies.Counts.{Counts}
+use Rattle.dd_rig.specs.Counts.{Rose}
+use Rattle.dd_rig.specs.declared.device.Dev.TheVariants.{Flash}
+use Rattle.dd_rig.specs.World.{World, shown}
+use Rattle.dd_script.specs.Text.{ended}
+
+-- that line alone was said, or an emit failed and a part of it was
+abbrev pub SaysAlone : List ℕ → Counts → Counts → World → World → Type 0
+SaysAlone line before after old new =
+    (new.said ≡ old.said ++ ended line) ⊎ (Rose before.failed_emits after.failed_emits × (n : ℕ) × (new.said ≡ old.said ++ take n (ended line)))
+
+-- no call was made on a device
+abbrev pub IsIdle : Counts → Counts → Type 0
+IsIdle before after = (after.flash ≡ before.flash) × (after.disk ≡ before.disk)
+
+-- what a read gives of the first 64 bytes of the flash
+abbrev pub front_of : World → List ℕ
+front_of world = take 64 (shown Flash world)
