@@ -1,2 +1,4 @@
 pub mod Answering
 pub mod Laws
+pub mod Headline
+pub mod Serving

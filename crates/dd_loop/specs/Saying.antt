@@ -1,10 +1,11 @@
 -- What a run has said and asked of its devices.
-use Rattle.std.specs.Prelude.{◌≡◌, ◌⊎◌, ℕ, List, ◌++◌, take}
+use Rattle.std.specs.Prelude.{◌≡◌, ◌⊎◌, ℕ, List, [], ◌∷◌, ◌++◌, take}
+use Rattle.std.specs.List.{AllByRecursion, flat_map}
 use Rattle.dd_rig.specs.declared.tallies.Counts.{Counts}
 use Rattle.dd_rig.specs.Counts.{Rose}
 use Rattle.dd_rig.specs.declared.device.Dev.TheVariants.{Flash}
 use Rattle.dd_rig.specs.World.{World, shown}
-use Rattle.dd_script.specs.Text.{ended}
+use Rattle.dd_script.specs.Text.{HasNoEnd, ended}
 
 -- that line alone was said, or an emit failed and a part of it was
 abbrev pub SaysAlone : List ℕ → Counts → Counts → World → World → Type 0
@@ -18,3 +19,8 @@ IsIdle before after = (after.flash ≡ before.flash) × (after.disk ≡ before.d
 -- what a read gives of the first 64 bytes of the flash
 abbrev pub front_of : World → List ℕ
 front_of world = take 64 (shown Flash world)
+
+-- the last that was said is that line behind other lines, or an emit failed and it is a part of it
+abbrev pub EndsIn : List ℕ → List ℕ → Counts → Counts → Type 0
+EndsIn line output before after = (front : List (List ℕ)) × AllByRecursion HasNoEnd front ×
+    ((output ≡ flat_map ended (front ++ line ∷ [])) ⊎ (Rose before.failed_emits after.failed_emits × (n : ℕ) × (output ≡ flat_map ended front ++ take n (ended line))))

@@ -1,0 +1,35 @@
+-- The promise on crashes, as a property of one outcome.
+use Rattle.std.specs.Prelude.{◌≡◌, ◌≤◌, ◌+◌, ℕ, List, ◌++◌, length}
+use Rattle.dd_block.specs.declared.print.Fp.{Fp}
+use Rattle.dd_rig.specs.World.{World, Outcome, IsOwn}
+use Rattle.dd_model.specs.State.{Sizes, State}
+use Rattle.dd_script.specs.Answers.{taken, state_after, acknowledged, Answers, IsStopped}
+use Rattle.dd_script.specs.Command.{Command}
+use Rattle.dd_script.specs.Text.{ended}
+use Rattle.dd_store.specs.Meaning.{Stands}
+
+-- The two devices stand for the array and both lists after one prefix of the answered reads and writes, no shorter than any flush
+-- acknowledged in the output. It reads the outcome's own output, so it is the same property at each moment of a run. The run began in a
+-- state, with these commands, and with this output behind it.
+pub record Headline (print : List ℕ → Fp) (sizes : Sizes) (start : State) (commands : List Command) (said : List ℕ) (o : Outcome) : Type 0 where
+  -- what this run had said
+  pub output : List ℕ
+  pub out : o.out ≡ said ++ output
+  -- how many of the references that it answers the devices have: the count that the flash spells, less that of the start
+  pub k : ℕ
+  pub few : k ≤ length (taken commands output)
+  pub stands : Stands print o.flash o.disk (state_after sizes start commands output k)
+  pub counted : stands.count ≡ start.count + k
+  pub acknowledges : acknowledged start.count output ≤ start.count + k
+  -- and what it had said answers the commands
+  pub answers : Answers print sizes start commands output
+
+-- The devices are as a crash before the opening might have left them, and no more was said than a part of one line that stops the run.
+pub record IsUnopened (old : World) (o : Outcome) : Type 0 where
+  pub own : IsOwn old o.flash o.disk
+  pub line : List ℕ
+  pub stopped : IsStopped line
+  pub rest : List ℕ
+  pub more : List ℕ
+  pub part : ended line ≡ rest ++ more
+  pub out : o.out ≡ old.said ++ rest

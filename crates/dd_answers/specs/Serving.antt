@@ -1,0 +1,79 @@
+-- What a run that serves a script says, how it ends, and why.
+use Rattle.std.specs.Prelude.{◌≡◌, ◌≢◌, ◌⊎◌, ◌++◌, ◌<◌, ◌≤◌, ℕ, Bool, false, List, [], ⊤}
+use Rattle.dd_block.specs.declared.print.Fp.{Fp}
+use Rattle.dd_rig.specs.Device.{IsImage}
+use Rattle.dd_rig.specs.World.{World, Outcome, MayLeave}
+use Rattle.dd_rig.specs.declared.tallies.Counts.{Counts}
+use Rattle.dd_rig.specs.Counts.{IsStill, Rose}
+use Rattle.dd_model.specs.State.{Sizes, State}
+use Rattle.dd_recover.specs.declared.opening_fault.OpenFault.{OpenFault}
+use Rattle.dd_recover.specs.declared.opening_fault.OpenFault.TheVariants as open_fault
+use Rattle.dd_script.specs.Answers.{Answers, AnswersAll}
+use Rattle.dd_script.specs.Command.{Command}
+use Rattle.dd_script.specs.Output.{dialect_of, output_of}
+use Rattle.dd_script.specs.Reading.{script_limit}
+use Rattle.dd_script.specs.Script.{lines_of, commands_of, EndsWithin}
+use Rattle.dd_script.specs.Text.{stop_text}
+use Rattle.dd_script.specs.declared.reply.Refusal.TheVariants as refusal
+use Rattle.dd_script.specs.declared.reply.Stop.{Stop}
+use Rattle.dd_script.specs.declared.reply.Stop.TheVariants as stop
+use Rattle.dd_loop.specs.declared.ending.Ending.{Ending}
+use Rattle.dd_loop.specs.declared.ending.Ending.TheVariants.{Served, Refused, Stopped, Unheard}
+use Rattle.dd_loop.specs.Answering.{CountsFaults, HasFault}
+use Rattle.dd_loop.specs.Ending.{status_of}
+use Rattle.dd_loop.specs.Saying.{EndsIn}
+
+-- how a run ends whose devices weren't opened
+abbrev pub ending_of : OpenFault → Ending
+ending_of (open_fault.Memory e) = Stopped stop.Memory
+ending_of open_fault.FlashRead = Stopped stop.Flash
+ending_of open_fault.FlashWrite = Stopped stop.Flash
+ending_of open_fault.DiskWrite = Stopped stop.Disk
+ending_of (open_fault.FlashSmall need have) = Refused (refusal.FlashSmall need have)
+ending_of (open_fault.DiskSmall need have) = Refused (refusal.DiskSmall need have)
+ending_of (open_fault.Super fault) = Refused (refusal.Super fault)
+ending_of open_fault.NoRegion = Refused refusal.NoRegion
+ending_of (open_fault.Snapshot region at) = Refused (refusal.Snapshot region at)
+ending_of (open_fault.Group region at) = Refused (refusal.Group region at)
+ending_of (open_fault.Worn value) = Refused (refusal.Worn value)
+ending_of open_fault.Version1 = Refused refusal.Version1
+
+-- a script has fewer than 2^40 bytes, or a whole line q among so many
+abbrev pub IsBounded : Sizes → List ℕ → Type 0
+IsBounded sizes script = EndsWithin script_limit (dialect_of sizes) script
+
+-- Why a run ends, on every rig: which count rose. In the opening a failed read of the flash stops it too.
+abbrev pub Caused : (opening : Type 0) (long : Type 0) → Ending → (before after : Counts) → (takes_before takes_after : ℕ) → Type 0
+Caused opening long (Served faulted) before after takes_before takes_after = ⊤
+Caused opening long (Refused why) before after takes_before takes_after = opening
+Caused opening long (Stopped stop.Flash) before after takes_before takes_after =
+    Rose before.flash.failed_writes after.flash.failed_writes ⊎ (opening × Rose before.flash.failed_reads after.flash.failed_reads)
+Caused opening long (Stopped stop.Disk) before after takes_before takes_after = Rose before.disk.failed_writes after.disk.failed_writes
+Caused opening long (Stopped stop.Script) before after takes_before takes_after = Rose takes_before takes_after
+Caused opening long (Stopped stop.Length) before after takes_before takes_after = long
+Caused opening long (Stopped stop.Memory) before after takes_before takes_after = ⊤
+Caused opening long Unheard before after takes_before takes_after = Rose before.failed_emits after.failed_emits
+
+module _ (print : List ℕ → Fp) (sizes : Sizes) (start : State) (script : List ℕ) where
+  -- what each ending says of the output: where the script was served each command has its whole line, and its reply where no line tells
+  -- a fault; where it stopped the line that says why is the last; and where an emit failed nothing is said behind it
+  abbrev pub Ends : Ending → (output : List ℕ) → (before after : Counts) → Type 0
+  Ends (Served faulted) output before after = AnswersAll print sizes start (commands_of (dialect_of sizes) script) output × HasFault faulted (lines_of output).whole
+      × (faulted ≡ false → output ≡ output_of print sizes start (commands_of (dialect_of sizes) script))
+  Ends (Refused why) output before after = ⊥
+  Ends (Stopped why) output before after = EndsIn (stop_text why) output before after
+  Ends Unheard output before after = ⊤
+
+  -- What a run says that serves a script over devices which stand for the state at its start, whatever fails.
+  pub record Serves (status : ℕ) (old new : World) (before after : Counts) : Type 0 where
+    pub output : List ℕ
+    pub said : new.said ≡ old.said ++ output
+    -- its whole lines answer the commands one by one, and behind them stands a part of one more
+    pub answers : Answers print sizes start (commands_of (dialect_of sizes) script) output
+    -- it has no such part where no emit failed
+    pub whole : IsStill before.failed_emits after.failed_emits → (lines_of output).rest ≡ []
+    -- no more fault lines come than reads failed
+    pub faults : CountsFaults (lines_of output).whole before after
+    pub ending : Ending
+    pub status_is : status ≡ status_of ending
+    pub ends : Ends ending output before after
