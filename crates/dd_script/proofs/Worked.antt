@@ -1,10 +1,10 @@
 -- The definitions at worked lines and outputs.
-use Rattle.std.proofs.Common.{◌≡◌, ℕ, Bool, true, false, List, [], ◌∷◌, ◌++◌, replicate, refl, Some, None, codes}
+use Rattle.std.proofs.Common.{◌≡◌, ℕ, true, false, List, [], ◌∷◌, replicate, refl, Some, codes}
 use Rattle.hex.specs.Hex.{decode_pairs}
 use Rattle.dd_block.specs.declared.text.TextFault.TheVariants.{Empty, Odd}
 use Rattle.dd_script.specs.declared.dialect.Dialect.{Dialect}
-use Rattle.dd_script.specs.declared.line.BadKind.TheVariants.{Long, Word, Address, Text, Rest}
-use Rattle.dd_script.specs.Command.{Command, read, write, flush, clean, tick, quit, bad}
+use Rattle.dd_script.specs.declared.line.BadKind.TheVariants.{Word, Address, Text, Rest}
+use Rattle.dd_script.specs.Command.{Command, read, write, flush, quit, bad}
 use Rattle.dd_script.specs.Line.{command_of_line}
 use Rattle.dd_script.specs.Answers.{taken, acknowledged}
 
