@@ -2,14 +2,12 @@
 ghost use Rattle.std.specs.Prelude.{◌≡◌, ◌+◌, ◌*◌, ◌≤◌, ◌++◌, [], length, take, codes, decimal, option_map};
 ghost use Rattle.dd_block.specs.Text.{block_text};
 ghost use Rattle.dd_script.specs.declared.reply.Reply.TheVariants.{Bad, Fault, Stopped};
-ghost use Rattle.dd_script.specs.declared.reply.Refusal.TheVariants.{Super};
-ghost use Rattle.dd_layout.specs.declared.superblock.SuperFault.TheVariants as super;
-ghost use Rattle.dd_script.specs.Text.{reply_room, HasNoEnd, ended, kind_word, out_text, drop_text, read_text, write_text, reply_text, refusal_text, place_text, small_text};
+ghost use Rattle.dd_script.specs.Text.{reply_room, HasNoEnd, ended, kind_word, out_text, drop_text, read_text, write_text, reply_text};
 
-use crate::{BadKind, Refusal, Reply, Stop};
-use dd_block::{Fp, GeometryFault, write_block_text};
-use dd_layout::SuperFault;
-use dd_model::{Done, Kind};
+use crate::refusing::write_refusal;
+use crate::{BadKind, Reply, Stop};
+use dd_block::{Fp, write_block_text};
+use dd_model::{Cut, Done, Kind};
 use dd_record::BRow;
 use dd_rig::Dev;
 use itoa::Buffer;
@@ -29,9 +27,8 @@ pub fn reply_read(done: Done, block: &[u8], into: &mut [u8]) -> usize
     let kind = put(into, 0, kind_name(done.kind));
     let space = put(into, kind, b" ");
     let text = put_block(into, space, block);
-    let out = put_out(into, text, done.cut.out);
-    let drop = put_drop(into, out, print_of(done.cut.drop));
-    put(into, drop, b"\n")
+    let cut = put_cut(into, text, done.cut);
+    put(into, cut, b"\n")
 }
 
 /// Writes any other line of output, and answers its length. The LF is the last byte of it.
@@ -63,13 +60,12 @@ fn write_done(done: Done, into: &mut [u8]) -> usize
     ensures fits { result ≤ reply_room }
 {
     let kind = put(into, 0, kind_name(done.kind));
-    let out = put_out(into, kind, done.cut.out);
-    let drop = put_drop(into, out, print_of(done.cut.drop));
-    put(into, drop, b"\n")
+    let cut = put_cut(into, kind, done.cut);
+    put(into, cut, b"\n")
 }
 
 // Words and a number.
-fn write_number(words: &[u8], number: u64, into: &mut [u8]) -> usize
+pub fn write_number(words: &[u8], number: u64, into: &mut [u8]) -> usize
     requires room { length into.old ≡ reply_room }
     requires short { length words.now ≤ 100 }
     requires line { HasNoEnd words.now }
@@ -80,95 +76,6 @@ fn write_number(words: &[u8], number: u64, into: &mut [u8]) -> usize
     let front = put(into, 0, words);
     let digits = put_number(into, front, number);
     put(into, digits, b"\n")
-}
-
-fn write_refusal(why: Refusal, into: &mut [u8]) -> usize
-    requires { length into.old ≡ reply_room }
-    ensures text { take result into.new ≡ ended (refusal_text why) }
-    ensures line { HasNoEnd (refusal_text why) }
-    ensures fits { result ≤ reply_room }
-{
-    match why {
-        Refusal::Words => put(into, 0, b"refused words\n"),
-        Refusal::FlashSmall { need, have } => write_small(b"flash", need, have, into),
-        Refusal::DiskSmall { need, have } => write_small(b"disk", need, have, into),
-        Refusal::InUse => put(into, 0, b"refused in use\n"),
-        Refusal::Super(fault) => write_super(fault, into),
-        Refusal::NoRegion => put(into, 0, b"refused no region\n"),
-        Refusal::Snapshot { region, at } => write_place(b"refused snapshot ", region, at, into),
-        Refusal::Group { region, at } => write_place(b"refused group ", region, at, into),
-        Refusal::Worn { value } => write_number(b"refused worn ", value, into),
-        Refusal::Version1 => put(into, 0, b"refused version 1\n"),
-    }
-}
-
-// The line of a superblock that breaks a check.
-fn write_super(fault: SuperFault, into: &mut [u8]) -> usize
-    requires { length into.old ≡ reply_room }
-    ensures text { take result into.new ≡ ended (refusal_text (Super fault)) }
-    ensures line { HasNoEnd (refusal_text (Super fault)) }
-    ensures fits { result ≤ reply_room }
-{
-    match fault {
-        SuperFault::Gate(value) => write_number(b"refused super gate ", u64::from(value), into),
-        SuperFault::Magic => put(into, 0, b"refused super magic\n"),
-        SuperFault::Version(value) => {
-            write_number(b"refused super version ", u64::from(value), into)
-        }
-        SuperFault::Geometry(fault) => write_geometry(fault, into),
-        SuperFault::Padding(at) => write_number(b"refused super padding ", u64::from(at), into),
-    }
-}
-
-// The line of a geometry that has a number out of its range.
-fn write_geometry(fault: GeometryFault, into: &mut [u8]) -> usize
-    requires { length into.old ≡ reply_room }
-    ensures text { take result into.new ≡ ended (refusal_text (Super (super.Geometry fault))) }
-    ensures line { HasNoEnd (refusal_text (Super (super.Geometry fault))) }
-    ensures fits { result ≤ reply_room }
-{
-    match fault {
-        GeometryFault::Block(value) => write_number(b"refused super geometry block ", u64::from(value), into),
-        GeometryFault::Blocks(value) => write_number(b"refused super geometry blocks ", u64::from(value), into),
-        GeometryFault::Acap(value) => write_number(b"refused super geometry acap ", u64::from(value), into),
-        GeometryFault::Bcap(value) => write_number(b"refused super geometry bcap ", u64::from(value), into),
-        GeometryFault::Spare(value) => write_number(b"refused super geometry spare ", u64::from(value), into),
-        GeometryFault::Group(value) => write_number(b"refused super geometry group ", u64::from(value), into),
-        GeometryFault::Log(value) => write_number(b"refused super geometry log ", u64::from(value), into),
-    }
-}
-
-// Words, and a place in a region.
-fn write_place(words: &[u8], region: u32, at: u64, into: &mut [u8]) -> usize
-    requires room { length into.old ≡ reply_room }
-    requires short { length words.now ≤ 100 }
-    requires line { HasNoEnd words.now }
-    ensures text { take result into.new ≡ ended (words.now ++ place_text region at) }
-    ensures line { HasNoEnd (words.now ++ place_text region at) }
-    ensures fits { result ≤ reply_room }
-{
-    let front = put(into, 0, words);
-    let first = put_number(into, front, u64::from(region));
-    let space = put(into, first, b" ");
-    let second = put_number(into, space, at);
-    put(into, second, b"\n")
-}
-
-fn write_small(device: &[u8], need: u64, have: u64, into: &mut [u8]) -> usize
-    requires room { length into.old ≡ reply_room }
-    requires device { length device.now ≤ 5 }
-    requires line { HasNoEnd device.now }
-    ensures text { take result into.new ≡ ended (small_text device.now need have) }
-    ensures line { HasNoEnd (small_text device.now need have) }
-    ensures fits { result ≤ reply_room }
-{
-    let word = put(into, 0, b"refused ");
-    let name = put(into, word, device);
-    let small = put(into, name, b" small ");
-    let first = put_number(into, small, need);
-    let space = put(into, first, b" ");
-    let second = put_number(into, space, have);
-    put(into, second, b"\n")
 }
 
 fn bad_line(kind: BadKind) -> &'static [u8]
@@ -227,7 +134,7 @@ fn print_of(row: Option<BRow>) -> Option<Fp>
 }
 
 // Puts a text behind the first bytes, and answers where it ends.
-fn put(into: &mut [u8], at: usize, text: &[u8]) -> usize
+pub fn put(into: &mut [u8], at: usize, text: &[u8]) -> usize
     requires { at + length text.now ≤ length into.old }
     ensures text { take result into.new ≡ take at into.old ++ text.now }
     ensures end { result ≡ at + length text.now }
@@ -237,7 +144,8 @@ fn put(into: &mut [u8], at: usize, text: &[u8]) -> usize
     end
 }
 
-fn put_number(into: &mut [u8], at: usize, number: u64) -> usize
+// Puts a number behind the first bytes, and answers where it ends.
+pub fn put_number(into: &mut [u8], at: usize, number: u64) -> usize
     requires { at + 40 ≤ length into.old }
     ensures text { take result into.new ≡ take at into.old ++ decimal number }
     ensures end { result ≤ at + 40 }
@@ -253,6 +161,17 @@ fn put_block(into: &mut [u8], at: usize, block: &[u8]) -> usize
 {
     let size = write_block_text(block, &mut into[at..]);
     at + size
+}
+
+// What fell off the lists.
+fn put_cut(into: &mut [u8], at: usize, cut: Cut) -> usize
+    requires { at + 67 ≤ length into.old }
+    ensures text { take result into.new ≡ take at into.old ++ out_text cut.out ++ drop_text (option_map (λ row. row.fp) cut.drop) }
+    ensures line { HasNoEnd (out_text cut.out) }
+    ensures end { result ≤ at + 67 }
+{
+    let out = put_out(into, at, cut.out);
+    put_drop(into, out, print_of(cut.drop))
 }
 
 fn put_out(into: &mut [u8], at: usize, out: Option<u32>) -> usize
