@@ -2,6 +2,7 @@ pub mod Bounds
 pub mod Fresh
 pub mod Laying
 pub mod Moments
+pub mod Opened
 pub mod Replaying
 pub mod Running
 pub mod Telling
