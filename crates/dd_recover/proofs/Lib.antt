@@ -1,4 +1,5 @@
 pub mod Bounds
+pub mod FoundReading
 pub mod Fresh
 pub mod Laying
 pub mod Moments
