@@ -76,15 +76,15 @@ module _ (print : List ℕ → Fp) (geo : Geometry) (found : Found) (is : IsFoun
   -- over the worlds behind each read, which change nothing
   pub found_means : (old read now : World) → read ≡ old → now ≡ read → take 64 old.flash.shown ≡ super_text geo → IsReadOff geo read.flash.shown found
       → ((committed : Table) → IsStable read.flash → StandsAt read.flash.shown 0 (super_text geo) → RowsFit (found_table found)
-          → replay geo.acap geo.bcap (found_records found) (found_table found) ≡ Some committed → Sits found.journal now committed)
+      → replay geo.acap geo.bcap (found_records found) (found_table found) ≡ Some committed → Sits found.journal now committed)
       → IsStable old.flash → (s : State) (stands : Stands print old.flash.shown old.disk.shown s) → (stands.geo ≡ geo) × FoundMeans print geo found now s
   found_means old read now read_is now_is text off sits stable s stands =
       let same : now ≡ old = now_is ∙ read_is in
       let sits_old = subst
       (λ (w : World). (committed : Table) → IsStable w.flash → StandsAt w.flash.shown 0 (super_text geo) → RowsFit (found_table found)
-          → replay geo.acap geo.bcap (found_records found) (found_table found) ≡ Some committed → Sits found.journal now committed)
+      → replay geo.acap geo.bcap (found_records found) (found_table found) ≡ Some committed → Sits found.journal now committed)
       read_is sits in
-      let here = means_so old text (subst (λ (w : World). IsReadOff geo w.flash.shown found) read_is off) 
+      let here = means_so old text (subst (λ (w : World). IsReadOff geo w.flash.shown found) read_is off)
       (λ committed fit replayed. subst (λ (w : World). Sits found.journal w committed) same (sits_old committed stable text fit replayed)) s stands in
       (here.same_geo, subst (λ (w : World). FoundMeans print geo found w s) (sym same) here.means)
 

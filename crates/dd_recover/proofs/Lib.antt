@@ -6,5 +6,7 @@ pub mod Moments
 pub mod Opened
 pub mod Replaying
 pub mod Running
+pub mod Settled
 pub mod Telling
 pub mod Texts
+pub mod Young

@@ -1,8 +1,9 @@
 -- Rows, and the records that are applied to them one after the other.
-use Rattle.std.proofs.Common.{◌≡◌, ℕ, zero, suc, ◌<◌, ◌≤◌, ◌==◌, Bool, true, false, cond, List, [], ◌∷◌, length, get_or, refl, sym, ◌∙◌, ap, subst, arith, Some, None}
+use Rattle.std.proofs.Common.{◌≡◌, ℕ, zero, suc, ◌+◌, ◌<◌, ◌≤◌, ◌==◌, Bool, true, false, cond, List, [], ◌∷◌, ◌++◌, length, get_or, refl, sym, ◌∙◌, ap, subst, arith, Some, None}
 use Rattle.std.specs.Prelude.{Option, ◌||◌, IsTrue, option_and_then, option_map}
-use Rattle.std.specs.List.{AllByRecursion}
+use Rattle.std.specs.List.{AllByRecursion, flat_map}
 use Rattle.std.proofs.lemmas.Bool.{eqb-true}
+use Rattle.std.proofs.lemmas.List.{map-append}
 use Rattle.dd_block.specs.declared.geometry.Geometry.{Geometry}
 use Rattle.dd_record.specs.declared.rec.Rec.{Rec}
 use Rattle.dd_record.specs.Spelling.{IsVersion}
@@ -14,7 +15,8 @@ use Rattle.dd_model.specs.Listing.{Listing, empty_listing, restored}
 use Rattle.dd_journal.specs.declared.found.Found.{Found}
 use Rattle.dd_journal.specs.declared.found.Placed.{Placed}
 use Rattle.dd_journal.specs.Found.{IsFound, found_table, found_records}
-use Rattle.dd_journal.specs.Regions.{AreRows}
+use Rattle.dd_journal.specs.Logged.{placed_from, placed_groups}
+use Rattle.dd_journal.specs.Regions.{AreRows, group_size}
 use Rattle.dd_recover.specs.declared.opening_fault.OpenFault.{OpenFault}
 use Rattle.dd_recover.specs.declared.opening_fault.OpenFault.TheVariants.{Version1}
 use Rattle.dd_recover.specs.Opening.{unfit_or, first_unfit, version_fault}
@@ -28,6 +30,18 @@ below_at slots (placed ∷ recs) (suc i) other lt below = below_at slots recs i 
 
 pub below_in : (slots now : ℕ) (recs : List Placed) (i : ℕ) (other : Placed) → now ≡ slots → i < length recs → AllByRecursion (λ rec. IsSlotBelow slots rec) (recs_of recs) → IsSlotBelow now (get_or recs i other).rec
 below_in slots now recs i other same lt below = subst (λ (n : ℕ). IsSlotBelow n (get_or recs i other).rec) (sym same) (below_at slots recs i other lt below)
+
+-- the records of groups, without their places
+recs_placed : (at : ℕ) (recs : List Rec) → recs_of (placed_from at recs) ≡ recs
+recs_placed at [] = refl
+recs_placed at (rec ∷ recs) = ap (λ (l : List Rec). rec ∷ l) (recs_placed (at + 48) recs)
+
+pub records_placed : (at : ℕ) (groups : List (List Rec)) → recs_of (placed_groups at groups) ≡ flat_map (λ (g : List Rec). g) groups
+records_placed at [] = refl
+records_placed at (g ∷ groups) =
+    map-append (λ (p : Placed). p.rec) (placed_from (at + 5) g) (placed_groups (at + group_size (length g)) groups)
+    ∙ ap (λ (l : List Rec). l ++ recs_of (placed_groups (at + group_size (length g)) groups)) (recs_placed (at + 5) g)
+    ∙ ap (λ (l : List Rec). g ++ l) (records_placed (at + group_size (length g)) groups)
 
 -- of two versions the one that isn't refused
 pub version_two : (version : ℕ) → IsVersion version → version_fault version ≡ None → version ≡ 2

@@ -155,7 +155,7 @@ module _ (size : Dev → ℕ) (flash : List ℕ) where
 
     module _ (body : body_fault geo size flash ≡ None) (r : Reading) (spells : Spells flash r) (same : r.geo ≡ geo) where
       -- there is no first condition
-      none_first : reading_fault r ≡ None → (fault : OpenFault) → IsFirstFault size flash fault → ⊥
+      pub none_first : reading_fault r ≡ None → (fault : OpenFault) → IsFirstFault size flash fault → ⊥
       none_first none fault (inl is) = absurd (cc (front, is))
       none_first none fault (inr (before, other, is, inl refused)) =
           let one : other ≡ geo = super_text_same other geo (sym is ∙ text) in

@@ -58,6 +58,7 @@ pub fn open_store<F: Fingerprint, L: Lists, R: Rig>(
     ensures stable { R.tells → (IsUnsynced result → ⊥) → IsStable (R.world rig.new).flash × IsStable (R.world rig.new).disk }
     ensures shows { R.tells → (device : AnyDevice) → shown device (R.world rig.new) ≡ shown device (R.world rig.old) }
     ensures said { R.tells → (R.world rig.new).said ≡ (R.world rig.old).said }
+    ensures order { result ≡ Err OpenFault.DiskWrite → Rose (R.counts rig.old).flash.writes (R.counts rig.new).flash.writes }
     ensures unsynced { IsUnsynced result → Makes (up_to 0 1 0) (up_to 0 1 0) (R.counts rig.old) (R.counts rig.new) }
     ensures calls { Makes (up_to 4 1 0) (up_to 0 1 0) (R.counts rig.old) (R.counts rig.new) }
     ensures frame { Frame (R.counts rig.old) (R.counts rig.new) (R.device_size rig.old) (R.device_size rig.new) }

@@ -27,9 +27,9 @@ returns-clause-kept g c = λ told.
     let rows = (g.L.Lists.listing c.in_ok-lists.lists).table in
     ok_along _ _ _
     (λ new. (s : State) → IsStable world.flash → IsStable world.disk → disk_need c.args.geo ≤ g.R.Rig.device_size c.args.rig.now Disk → Sits c.args.found.journal world rows
-        → Means print c.args.geo world.flash.shown world.disk.shown rows c.committed-count.result s → Kept print new.store world s s)
+    → Means print c.args.geo world.flash.shown world.disk.shown rows c.committed-count.result s → Kept print new.store world s s)
     (λ new. (s : State) → IsStable world.flash → IsStable world.disk → disk_need c.args.geo ≤ g.R.Rig.device_size c.args.rig.now Disk → FoundMeans print c.args.geo c.args.found world s
-        → Kept print new.store world s s)
+    → Kept print new.store world s s)
     _ c.new.result c.map_err.result c.map_err.ensures.cases c.map_err.ensures.variant
     (λ new keeps s flash disk large means.
     found_kept print c.args.geo c.args.found world s rows c.committed-count.result new.store c.in_ok-lists.ensures.replayed c.committed-count.ensures (keeps s flash disk large) means)

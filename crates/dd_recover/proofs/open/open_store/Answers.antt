@@ -1,0 +1,33 @@
+use Rattle.std.proofs.Common.{◌∙◌, ap}
+use Rattle.dd_rig.specs.declared.device.Dev.TheVariants.{Flash, Disk}
+use Rattle.dd_rig.proofs.Moments.{starts}
+use Rattle.dd_recover.proofs.Settled.{own_still, settled_stable}
+use Rattle.dd_recover.proofs.Young.{opens_settled}
+use Rattle.dd_recover.proofs.open.open_store.Goals as goal
+
+pub returns-in_err-sync_both-clause-own : goal.returns-in_err-sync_both-clause-own
+returns-in_err-sync_both-clause-own g c = λ told.
+    let clock = g.R.Rig.clock c.args.rig.now in
+    own_still (g.R.Rig.world c.args.rig.now) (g.R.Rig.world c.sync_both.new.rig) clock (g.R.Rig.clock c.sync_both.new.rig) (g.R.Rig.clock c.sync_both.new.rig) (c.sync_both.ensures.time told) (starts (g.R.Rig.clock c.sync_both.new.rig) (λ o. ⊥))
+    (λ o left. g.met.R.Rig.only_now c.args.rig.now o told left)
+    (λ o later may. g.met.R.Rig.counts_now c.sync_both.new.rig clock.moment o told later may)
+
+pub returns-clause-opens : goal.returns-clause-opens
+returns-clause-opens g c = λ told.
+    let flash = g.met.R.Rig.shows_image c.args.rig.now Flash told in
+    let disk = g.met.R.Rig.shows_image c.args.rig.now Disk told in
+    opens_settled _ c.args.print (g.F.Fingerprint.printed c.args.print) c.open_settled.result (g.R.Rig.world c.args.rig.now) (g.R.Rig.world c.sync_both.new.rig) (g.R.Rig.world c.open_settled.new.rig)
+    (g.R.Rig.device_size c.args.rig.now) (g.R.Rig.device_size c.sync_both.new.rig)
+    (flash.same_length ∙ g.met.R.Rig.has_size c.args.rig.now Flash told) (disk.same_length ∙ g.met.R.Rig.has_size c.args.rig.now Disk told)
+    (c.in_ok-sync_both.ensures.ok told) c.sync_both.ensures.frame.1 (c.open_settled.ensures.fault told) c.open_settled.ensures.print (c.open_settled.ensures.kept told)
+
+pub returns-clause-own : goal.returns-clause-own
+returns-clause-own g c = λ told.
+    let clock = g.R.Rig.clock c.args.rig.now in
+    own_still (g.R.Rig.world c.args.rig.now) (g.R.Rig.world c.open_settled.new.rig) clock (g.R.Rig.clock c.sync_both.new.rig) (g.R.Rig.clock c.open_settled.new.rig) (c.sync_both.ensures.time told) (c.open_settled.ensures.time told)
+    (λ o left. g.met.R.Rig.only_now c.args.rig.now o told left)
+    (λ o later may. g.met.R.Rig.counts_now c.open_settled.new.rig clock.moment o told later may)
+
+pub returns-clause-stable : goal.returns-clause-stable
+returns-clause-stable g c = λ told synced.
+    settled_stable (g.R.Rig.world c.args.rig.now) (g.R.Rig.world c.sync_both.new.rig) (g.R.Rig.world c.open_settled.new.rig) (c.in_ok-sync_both.ensures.ok told) (c.open_settled.ensures.world told)
