@@ -19,9 +19,10 @@ use Rattle.dd_journal.specs.Regions.{Reading, Reads, Spells, head_of, records_of
 use Rattle.dd_journal.specs.Sitting.{JournalView, IsStable, Sits}
 use Rattle.dd_journal.proofs.Finds.{found_records_are}
 use Rattle.dd_journal.proofs.Sole.{spells_one}
+use Rattle.dd_store.specs.Keeping.{StoreView}
 use Rattle.dd_store.specs.Meaning.{Means, Stands}
 use Rattle.dd_recover.specs.Opening.{reading_fault}
-use Rattle.dd_recover.specs.Stages.{FoundMeans, found_fault, refused_by}
+use Rattle.dd_recover.specs.Stages.{FoundMeans, HasFound, found_fault, refused_by}
 
 -- it is refused for the same
 pub found_fault_is : (geo : Geometry) (r : Reading) (found : Found) → IsFoundAs geo r found → reading_fault r ≡ found_fault geo found
@@ -87,6 +88,18 @@ module _ (print : List ℕ → Fp) (geo : Geometry) (found : Found) (is : IsFoun
       let here = means_so old text (subst (λ (w : World). IsReadOff geo w.flash.shown found) read_is off)
       (λ committed fit replayed. subst (λ (w : World). Sits found.journal w committed) same (sits_old committed stable text fit replayed)) s stands in
       (here.same_geo, subst (λ (w : World). FoundMeans print geo found w s) (sym same) here.means)
+
+-- the journal of a store that has what was found sits on the rig
+pub found_sits : (geo : Geometry) (found : Found) (store : StoreView) (old read now : World) → read ≡ old → take 64 old.flash.shown ≡ super_text geo
+    → ((committed : Table) → IsStable read.flash → StandsAt read.flash.shown 0 (super_text geo) → RowsFit (found_table found)
+    → replay geo.acap geo.bcap (found_records found) (found_table found) ≡ Some committed → Sits found.journal now committed)
+    → HasFound geo found store → IsStable old.flash → Sits store.journal now store.table
+found_sits geo found store old read now read_is text sits has stable =
+    let sits_old = subst
+    (λ (w : World). (committed : Table) → IsStable w.flash → StandsAt w.flash.shown 0 (super_text geo) → RowsFit (found_table found)
+    → replay geo.acap geo.bcap (found_records found) (found_table found) ≡ Some committed → Sits found.journal now committed)
+    read_is sits in
+    subst (λ (j : JournalView). Sits j now store.table) (sym has.journal) (sits_old store.table stable text has.fit has.replayed)
 
 -- two facts of an Ok
 pub ok_both : {T E : Type 0} (result : Result T E) (P Q R : T → Type 0) → ((x : T) → P x → Q x → R x) → IfOk result P → IfOk result Q → IfOk result R

@@ -7,7 +7,7 @@ use Rattle.dd_block.specs.declared.geometry.Geometry.{Geometry}
 use Rattle.dd_rig.specs.World.{World}
 use Rattle.dd_layout.specs.Layout.{region_at}
 use Rattle.dd_record.specs.declared.rec.Rec.{Rec}
-use Rattle.dd_record.specs.Table.{Table}
+use Rattle.dd_record.specs.Table.{Table, RowsFit}
 use Rattle.dd_record.specs.Replay.{replay}
 use Rattle.dd_model.specs.State.{State}
 use Rattle.dd_model.specs.Listing.{misfit_of}
@@ -15,6 +15,7 @@ use Rattle.dd_journal.specs.declared.found.Found.{Found}
 use Rattle.dd_journal.specs.declared.found.Placed.{Placed}
 use Rattle.dd_journal.specs.Found.{found_table, found_records}
 use Rattle.dd_journal.specs.Sitting.{Sits}
+use Rattle.dd_store.specs.Keeping.{StoreView}
 use Rattle.dd_store.specs.Meaning.{Means}
 use Rattle.dd_recover.specs.declared.opening_fault.OpenFault.{OpenFault}
 use Rattle.dd_recover.specs.declared.opening_fault.OpenFault.TheVariants.{Memory, FlashRead, FlashWrite, DiskWrite, Snapshot, Group}
@@ -63,3 +64,9 @@ pub record FoundMeans (print : List ℕ → Fp) (geo : Geometry) (found : Found)
   pub replayed : replay geo.acap geo.bcap (found_records found) (found_table found) ≡ Some rows
   pub sits : Sits found.journal world rows
   pub means : Means print geo world.flash.shown world.disk.shown rows found.journal.committed s
+
+-- a store has the journal that was found, and the rows behind its records
+pub record HasFound (geo : Geometry) (found : Found) (store : StoreView) : Type 0 where
+  pub journal : store.journal ≡ found.journal
+  pub fit : RowsFit (found_table found)
+  pub replayed : replay geo.acap geo.bcap (found_records found) (found_table found) ≡ Some store.table

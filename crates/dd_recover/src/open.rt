@@ -20,7 +20,7 @@ ghost use Rattle.dd_journal.specs.Sitting.{IsStable, Sits};
 ghost use Rattle.dd_store.specs.Keeping.{Kept};
 ghost use Rattle.dd_store.specs.Meaning.{Stands};
 ghost use Rattle.dd_recover.specs.Opening.{TellsOpening, Opens, IsYoung, IsOpened, IsUnsynced, OpenFaulted, front_fault, small_for, body_fault, opening_of};
-ghost use Rattle.dd_recover.specs.Stages.{Tells, IsCallFault, found_fault, FoundMeans};
+ghost use Rattle.dd_recover.specs.Stages.{Tells, IsCallFault, found_fault, FoundMeans, HasFound};
 ghost use Rattle.dd_recover.specs.Writing.{settled};
 
 use crate::OpenFault;
@@ -49,6 +49,7 @@ pub fn open_store<F: Fingerprint, L: Lists, R: Rig>(
         → Opens print (F.printed print) stands.geo result (R.world rig.new) s }
     ensures fault { R.tells → TellsOpening result (R.device_size rig.old) (shown FlashDevice (R.world rig.old)) }
     ensures opened { IfOk result (λ opened. IsOpened opened.store (R.device_size rig.old)) }
+    ensures sits { R.tells → IfOk result (λ opened. Sits opened.store.journal (R.world rig.new) opened.store.table) }
     ensures print { IfOk result (λ opened. opened.print ≡ print) }
     ensures cause { IfErr result (λ fault. OpenFaulted fault (R.counts rig.old) (R.counts rig.new)) }
 
@@ -94,6 +95,7 @@ fn open_settled<F: Fingerprint, L: Lists, R: Rig>(
         → IsStable (R.world rig.old).flash → IsStable (R.world rig.old).disk
         → (opened.store.journal.geo ≡ stands.geo) × Kept (F.printed print) opened.store (R.world rig.new) s s) }
     ensures opened { IfOk result (λ opened. IsOpened opened.store (R.device_size rig.old)) }
+    ensures sits { R.tells → IfOk result (λ opened. IsStable (R.world rig.old).flash → Sits opened.store.journal (R.world rig.new) opened.store.table) }
     ensures print { IfOk result (λ opened. opened.print ≡ print) }
     ensures synced { IsUnsynced result → ⊥ }
     ensures cause { IfErr result (λ fault. OpenFaulted fault (R.counts rig.old) (R.counts rig.new)) }
@@ -214,6 +216,7 @@ fn open_found<F: Fingerprint, L: Lists, R: Rig>(
     requires { IsFound geo found }
     ensures fault { Tells result (found_fault geo found) }
     ensures quiet { IsCallFault result → ⊥ }
+    ensures has { IfOk result (λ opened. HasFound geo found opened.store) }
     ensures geometry { IfOk result (λ opened. opened.store.journal.geo ≡ geo) }
     ensures opened { layout.flash_need geo ≤ R.device_size rig.now FlashDevice → layout.disk_need geo ≤ R.device_size rig.now DiskDevice
         → IfOk result (λ opened. IsOpened opened.store (R.device_size rig.now)) }

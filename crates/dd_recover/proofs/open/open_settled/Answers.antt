@@ -1,15 +1,16 @@
 use Rattle.std.proofs.Common.{◌≡◌, ◌≤◌, ℕ, sym, ◌∙◌, ap, subst}
+use Rattle.std.proofs.lemmas.Result.{IfOk-weaker}
 use Rattle.dd_rig.specs.declared.device.Dev.{Dev}
 use Rattle.dd_rig.specs.declared.device.Dev.TheVariants.{Disk}
 use Rattle.dd_rig.specs.World.{World}
 use Rattle.dd_rig.proofs.Moments.{goes_on_same}
 use Rattle.dd_layout.specs.Layout.{disk_need}
 use Rattle.dd_model.specs.State.{State}
-use Rattle.dd_journal.specs.Sitting.{IsStable}
+use Rattle.dd_journal.specs.Sitting.{IsStable, Sits}
 use Rattle.dd_store.specs.Keeping.{Kept}
 use Rattle.dd_store.specs.Meaning.{Stands}
-use Rattle.dd_recover.specs.Stages.{FoundMeans}
-use Rattle.dd_recover.proofs.FoundReading.{found_means, ok_both}
+use Rattle.dd_recover.specs.Stages.{FoundMeans, HasFound}
+use Rattle.dd_recover.proofs.FoundReading.{found_means, found_sits, ok_both}
 use Rattle.dd_recover.proofs.Telling.{body_told, found_told}
 use Rattle.dd_recover.proofs.open.open_settled.Goals as goal
 
@@ -46,6 +47,16 @@ returns-clause-kept g c = λ told.
       keeps s (subst (λ (w : World). IsStable w.flash) (sym same) flash) (subst (λ (w : World). IsStable w.disk) (sym same) disk) large here.1,
     ))
     c.open_found.ensures.geometry (c.open_found.ensures.kept told)
+
+pub returns-clause-sits : goal.returns-clause-sits
+returns-clause-sits g c = λ told.
+    let old = g.R.Rig.world c.args.rig.now in
+    let now = g.R.Rig.world c.find_sized.new.rig in
+    let geo = c.in_ok-geo.geo in
+    let found = c.in_ok-found.found in
+    IfOk-weaker c.open_found.result (λ opened. HasFound geo found opened.store) (λ opened. IsStable old.flash → Sits opened.store.journal now opened.store.table)
+    (λ opened has. found_sits geo found opened.store old (g.R.Rig.world c.read_geometry.new.rig) now (c.read_geometry.ensures.world told) (c.in_ok-geo.ensures.geometry told) (c.in_ok-found.ensures.sits told) has)
+    c.open_found.ensures.has
 
 pub returns-clause-time : goal.returns-clause-time
 returns-clause-time g c = λ told. goes_on_same (c.read_geometry.ensures.time told) (c.find_sized.ensures.time told)

@@ -1,6 +1,8 @@
-use Rattle.std.proofs.Common.{◌∙◌, ap}
+use Rattle.std.proofs.Common.{◌∙◌, refl}
+use Rattle.std.proofs.lemmas.Result.{IfOk-weaker}
 use Rattle.dd_rig.specs.declared.device.Dev.TheVariants.{Flash, Disk}
 use Rattle.dd_rig.proofs.Moments.{starts}
+use Rattle.dd_journal.specs.Sitting.{IsStable, Sits}
 use Rattle.dd_recover.proofs.Settled.{own_still, settled_stable}
 use Rattle.dd_recover.proofs.Young.{opens_settled}
 use Rattle.dd_recover.proofs.open.open_store.Goals as goal
@@ -31,3 +33,12 @@ returns-clause-own g c = λ told.
 pub returns-clause-stable : goal.returns-clause-stable
 returns-clause-stable g c = λ told synced.
     settled_stable (g.R.Rig.world c.args.rig.now) (g.R.Rig.world c.sync_both.new.rig) (g.R.Rig.world c.open_settled.new.rig) (c.in_ok-sync_both.ensures.ok told) (c.open_settled.ensures.world told)
+
+pub returns-clause-sits : goal.returns-clause-sits
+returns-clause-sits g c = λ told.
+    let old = g.R.Rig.world c.args.rig.now in
+    let synced = g.R.Rig.world c.sync_both.new.rig in
+    let now = g.R.Rig.world c.open_settled.new.rig in
+    let stable : IsStable synced.flash = (settled_stable old synced synced (c.in_ok-sync_both.ensures.ok told) refl).0 in
+    IfOk-weaker c.open_settled.result (λ opened. IsStable synced.flash → Sits opened.store.journal now opened.store.table) (λ opened. Sits opened.store.journal now opened.store.table)
+    (λ opened sits. sits stable) (c.open_settled.ensures.sits told)
