@@ -15,7 +15,7 @@ use Rattle.dd_journal.specs.declared.found.Found.{Found}
 use Rattle.dd_journal.specs.declared.found.Placed.{Placed}
 use Rattle.dd_journal.specs.Found.{IsFound, IsFoundAs, IsReadOff, found_table, found_records}
 use Rattle.dd_journal.specs.Logged.{placed_records}
-use Rattle.dd_journal.specs.Regions.{Reading, Reads, Spells, head_of, records_of}
+use Rattle.dd_journal.specs.Regions.{Reading, Reads, Says, Spells, head_of, records_of}
 use Rattle.dd_journal.specs.Sitting.{JournalView, IsStable, Sits}
 use Rattle.dd_journal.proofs.Finds.{found_records_are}
 use Rattle.dd_journal.proofs.Sole.{spells_one}
@@ -100,6 +100,29 @@ found_sits geo found store old read now read_is text sits has stable =
     → replay geo.acap geo.bcap (found_records found) (found_table found) ≡ Some committed → Sits found.journal now committed)
     read_is sits in
     subst (λ (j : JournalView). Sits j now store.table) (sym has.journal) (sits_old store.table stable text has.fit has.replayed)
+
+-- a store that has what was found has the rows and the count that the flash says
+pub found_says : (geo : Geometry) (found : Found) (store : StoreView) (flash bytes : List ℕ) → bytes ≡ flash → take 64 flash ≡ super_text geo → IsFound geo found → IsReadOff geo bytes found
+    → HasFound geo found store → Says flash store.journal.geo 2 store.table store.count
+found_says geo found store flash bytes shows text is read has =
+    let off : IsReadOff geo flash found = subst (λ (b : List ℕ). IsReadOff geo b found) shows read in
+    let r : Reading = off.reading in
+    let at : geo ≡ store.journal.geo = sym (ap (λ (j : JournalView). j.geo) (has.journal ∙ is.journal)) in
+    let recs : found_records found ≡ records_of r = found_records_are geo r found off.found_as in
+    let tables : found_table found ≡ r.table = sym off.found_as.table in
+    let counts : found.head.count ≡ r.count = sym (ap (λ (h : Head). h.count) off.found_as.head) in
+    let moved : replay geo.acap geo.bcap (found_records found) (found_table found) ≡ replay store.journal.geo.acap store.journal.geo.bcap (records_of r) r.table =
+    λ i. replay (at i).acap (at i).bcap (recs i) (tables i) in
+    let counted : count_after found.head.count (found_records found) ≡ count_after r.count (records_of r) = λ i. count_after (counts i) (recs i) in
+    record {
+      reading = r;
+      spells = spells_of flash geo r off.reads off.found_as.geometry text;
+      geometry = off.found_as.geometry ∙ at;
+      versioned = ap (λ (h : Head). h.version) off.found_as.head ∙ has.version;
+      fit = subst RowsFit tables has.fit;
+      replayed = sym moved ∙ has.replayed;
+      counted = sym counted ∙ sym (ap (λ (j : JournalView). j.committed) is.journal) ∙ sym has.counted;
+    }
 
 -- two facts of an Ok
 pub ok_both : {T E : Type 0} (result : Result T E) (P Q R : T → Type 0) → ((x : T) → P x → Q x → R x) → IfOk result P → IfOk result Q → IfOk result R

@@ -22,112 +22,6 @@ use Rattle.dd_recover.specs.Opening.{front_fault, body_fault, reading_fault, ope
 use Rattle.dd_recover.specs.Stages.{Tells, IsCallFault, found_fault}
 use Rattle.dd_recover.proofs.FoundReading.{found_fault_is, spells_of}
 
--- the first of two parts refuses
-pub tells_first : (T U : Type 0) (e : OpenFault) (first rest : Option OpenFault) → Tells {T = T} (Err e) first → Tells {T = U} (Err e) (option_or first rest)
-tells_first T U (Memory e) first rest h = tt
-tells_first T U FlashRead first rest h = tt
-tells_first T U FlashWrite first rest h = tt
-tells_first T U DiskWrite first rest h = tt
-tells_first T U (FlashSmall need have) first rest h = ap (λ (f : Option OpenFault). option_or f rest) h
-tells_first T U (DiskSmall need have) first rest h = ap (λ (f : Option OpenFault). option_or f rest) h
-tells_first T U (Super fault) first rest h = ap (λ (f : Option OpenFault). option_or f rest) h
-tells_first T U NoRegion first rest h = ap (λ (f : Option OpenFault). option_or f rest) h
-tells_first T U (Snapshot region at) first rest h = ap (λ (f : Option OpenFault). option_or f rest) h
-tells_first T U (Group region at) first rest h = ap (λ (f : Option OpenFault). option_or f rest) h
-tells_first T U (Worn value) first rest h = ap (λ (f : Option OpenFault). option_or f rest) h
-tells_first T U Version1 first rest h = ap (λ (f : Option OpenFault). option_or f rest) h
-
--- the first of two parts has nothing to refuse
-pub tells_rest : {T : Type 0} (result : Result T OpenFault) (first rest : Option OpenFault) → first ≡ None → Tells result rest → Tells result (option_or first rest)
-tells_rest result first rest none h = subst (λ (f : Option OpenFault). Tells result (option_or f rest)) (sym none) h
-
--- a refusal, whatever an Ok would have
-pub tells_same : (T U : Type 0) (e : OpenFault) (fault : Option OpenFault) → Tells {T = T} (Err e) fault → Tells {T = U} (Err e) fault
-tells_same T U (Memory e) fault h = tt
-tells_same T U FlashRead fault h = tt
-tells_same T U FlashWrite fault h = tt
-tells_same T U DiskWrite fault h = tt
-tells_same T U (FlashSmall need have) fault h = h
-tells_same T U (DiskSmall need have) fault h = h
-tells_same T U (Super f) fault h = h
-tells_same T U NoRegion fault h = h
-tells_same T U (Snapshot region at) fault h = h
-tells_same T U (Group region at) fault h = h
-tells_same T U (Worn value) fault h = h
-tells_same T U Version1 fault h = h
-
--- an answer that is this fault tells of it
-pub tells_given : (T : Type 0) (e : OpenFault) (fault : Option OpenFault) → fault ≡ Some e → Tells {T = T} (Err e) fault
-tells_given T (Memory e) fault h = tt
-tells_given T FlashRead fault h = tt
-tells_given T FlashWrite fault h = tt
-tells_given T DiskWrite fault h = tt
-tells_given T (FlashSmall need have) fault h = h
-tells_given T (DiskSmall need have) fault h = h
-tells_given T (Super f) fault h = h
-tells_given T NoRegion fault h = h
-tells_given T (Snapshot region at) fault h = h
-tells_given T (Group region at) fault h = h
-tells_given T (Worn value) fault h = h
-tells_given T Version1 fault h = h
-
--- why no journal is found, as a fault of the opening
-pub tells_journal : (T U : Type 0) (e : JournalFault) (fault : Option JournalFault) → TellsFault {T = T} (Err e) fault → Tells {T = U} (Err (opening_of e)) (option_map opening_of fault)
-tells_journal T U (journal_fault_is.Memory e) fault h = tt
-tells_journal T U journal_fault_is.FlashRead fault h = tt
-tells_journal T U journal_fault_is.NoRegion fault h = ap (option_map opening_of) h
-tells_journal T U (journal_fault_is.Snapshot region at) fault h = ap (option_map opening_of) h
-tells_journal T U (journal_fault_is.Group region at) fault h = ap (option_map opening_of) h
-tells_journal T U (journal_fault_is.Worn value) fault h = ap (option_map opening_of) h
-
--- and no sync failed
-pub journal_synced : (T : Type 0) (e : JournalFault) → IsUnsynced {T = T} (Err (opening_of e)) → ⊥
-journal_synced T (journal_fault_is.Memory e) h = h
-journal_synced T journal_fault_is.FlashRead h = h
-journal_synced T journal_fault_is.NoRegion h = h
-journal_synced T (journal_fault_is.Snapshot region at) h = h
-journal_synced T (journal_fault_is.Group region at) h = h
-journal_synced T (journal_fault_is.Worn value) h = h
-
-pub journal_cause : (e : JournalFault) (before after : Counts) → (e ≡ journal_fault_is.FlashRead → Rose before.flash.failed_reads after.flash.failed_reads) → OpenFaulted (opening_of e) before after
-journal_cause (journal_fault_is.Memory e) before after h = tt
-journal_cause journal_fault_is.FlashRead before after h = h refl
-journal_cause journal_fault_is.NoRegion before after h = tt
-journal_cause (journal_fault_is.Snapshot region at) before after h = tt
-journal_cause (journal_fault_is.Group region at) before after h = tt
-journal_cause (journal_fault_is.Worn value) before after h = tt
-
--- what isn't a call that failed has no cause to tell
-pub quiet_cause : (T : Type 0) (e : OpenFault) (before after : Counts) → (IsCallFault {T = T} (Err e) → ⊥) → OpenFaulted e before after
-quiet_cause T (Memory e) before after quiet = tt
-quiet_cause T FlashRead before after quiet = absurd (quiet tt)
-quiet_cause T FlashWrite before after quiet = absurd (quiet tt)
-quiet_cause T DiskWrite before after quiet = absurd (quiet tt)
-quiet_cause T (FlashSmall need have) before after quiet = tt
-quiet_cause T (DiskSmall need have) before after quiet = tt
-quiet_cause T (Super f) before after quiet = tt
-quiet_cause T NoRegion before after quiet = tt
-quiet_cause T (Snapshot region at) before after quiet = tt
-quiet_cause T (Group region at) before after quiet = tt
-quiet_cause T (Worn value) before after quiet = tt
-quiet_cause T Version1 before after quiet = tt
-
--- and is no failed sync
-pub quiet_synced : {T : Type 0} (result : Result T OpenFault) → (IsCallFault result → ⊥) → IsUnsynced result → ⊥
-quiet_synced (Ok value) quiet h = h
-quiet_synced (Err (Memory e)) quiet h = h
-quiet_synced (Err FlashRead) quiet h = h
-quiet_synced (Err FlashWrite) quiet h = quiet tt
-quiet_synced (Err DiskWrite) quiet h = quiet tt
-quiet_synced (Err (FlashSmall need have)) quiet h = h
-quiet_synced (Err (DiskSmall need have)) quiet h = h
-quiet_synced (Err (Super f)) quiet h = h
-quiet_synced (Err NoRegion) quiet h = h
-quiet_synced (Err (Snapshot region at)) quiet h = h
-quiet_synced (Err (Group region at)) quiet h = h
-quiet_synced (Err (Worn value)) quiet h = h
-quiet_synced (Err Version1) quiet h = h
-
 -- a refusal that is the first condition tells the opening's answer
 told_of : (T U : Type 0) (e : OpenFault) (fault : Option OpenFault) (size : Dev → ℕ) (flash : List ℕ) → Tells {T = T} (Err e) fault → ((f : OpenFault) → fault ≡ Some f → IsFirstFault size flash f) → TellsOpening {T = U} (Err e) size flash
 told_of T U (Memory e) fault size flash h first = tt
@@ -144,10 +38,6 @@ told_of T U (Worn value) fault size flash h first = first (Worn value) h
 told_of T U Version1 fault size flash h first = first Version1 h
 
 module _ (size : Dev → ℕ) (flash : List ℕ) where
-  -- in front of the geometry
-  pub told_in_front : (T U : Type 0) (e : OpenFault) → Tells {T = T} (Err e) (front_fault size flash) → TellsOpening {T = U} (Err e) size flash
-  told_in_front T U e h = told_of T U e (front_fault size flash) size flash h (λ f is. inl is)
-
   module _ (geo : Geometry) (front : front_fault size flash ≡ None) (text : take 64 flash ≡ super_text geo) where
     -- by the geometry
     pub told_in_body : (T U : Type 0) (e : OpenFault) → Tells {T = T} (Err e) (body_fault geo size flash) → TellsOpening {T = U} (Err e) size flash
@@ -188,3 +78,8 @@ module _ (size middle : Dev → ℕ) (flash bytes : List ℕ) (geo : Geometry) (
       let here : IsReadOff geo flash found = subst (λ (b : List ℕ). IsReadOff geo b found) shows off in
       told_in_reading size flash geo front text body here.reading (spells_of flash geo here.reading here.reads here.found_as.geometry text) here.found_as.geometry result
       (subst (Tells result) (sym (found_fault_is geo here.reading found here.found_as)) h)
+
+-- an answer by what a flash shows, and by the sizes, that stay
+pub told_along : {T : Type 0} (result : Result T OpenFault) (size middle : Dev → ℕ) (flash bytes : List ℕ) → middle ≡ size → bytes ≡ flash → TellsOpening result middle bytes → TellsOpening result size flash
+told_along result size middle flash bytes sizes shows h =
+    subst (λ (n : Dev → ℕ). TellsOpening result n flash) sizes (subst (λ (b : List ℕ). TellsOpening result middle b) shows h)

@@ -110,24 +110,28 @@ opens_if F print printed geo (Err (Group region at)) new s size flash none told 
 opens_if F print printed geo (Err (Worn value)) new s size flash none told same kept = none (Worn value) told
 opens_if F print printed geo (Err Version1) new s size flash none told same kept = none Version1 told
 
--- devices that were synced and opened
-pub opens_settled : (F : Type 0) (print : F) (printed : List ℕ → Fp) (result : Result (StoreOf F) OpenFault) (old synced new : World) (size middle : Dev → ℕ)
-    → length old.flash.shown ≡ size Flash → length old.disk.shown ≡ size Disk → synced ≡ settled old → middle ≡ size
-    → TellsOpening result middle synced.flash.shown → IfOk result (λ opened. opened.print ≡ print)
+-- devices that were synced and opened hold the state that they stood for
+pub kept_settled : (F : Type 0) (printed : List ℕ → Fp) (result : Result (StoreOf F) OpenFault) (old synced new : World) → synced ≡ settled old
     → IfOk result (λ opened. (s : State) (stands : Stands printed synced.flash.shown synced.disk.shown s) → IsStable synced.flash → IsStable synced.disk
     → (opened.store.journal.geo ≡ stands.geo) × Kept printed opened.store new s s)
-    → (s : State) (stands : Stands printed old.flash.shown old.disk.shown s) → IsYoung stands → Opens print printed stands.geo result new s
-opens_settled F print printed result old synced new size middle flash_size disk_size is sizes told same kept s stands young =
-    let flash : List ℕ = old.flash.shown in
-    let tells : TellsOpening result size flash =
-    subst (λ (n : Dev → ℕ). TellsOpening result n flash) sizes (subst (λ (w : World). TellsOpening result middle w.flash.shown) is told) in
-    let keeps : IfOk result (λ opened. (t : State) (st : Stands printed (settled old).flash.shown (settled old).disk.shown t) → IsStable (settled old).flash → IsStable (settled old).disk
-    → (opened.store.journal.geo ≡ st.geo) × Kept printed opened.store new t t) =
-    subst
-    (λ (w : World). IfOk result (λ opened. (t : State) (st : Stands printed w.flash.shown w.disk.shown t) → IsStable w.flash → IsStable w.disk → (opened.store.journal.geo ≡ st.geo) × Kept printed opened.store new t t))
-    is kept in
-    opens_if F print printed stands.geo result new s size flash (young_none printed flash old.disk.shown size flash_size disk_size s stands young) tells same
+    → IfOk result (λ opened. (s : State) (stands : Stands printed old.flash.shown old.disk.shown s) → (opened.store.journal.geo ≡ stands.geo) × Kept printed opened.store new s s)
+kept_settled F printed result old synced new is kept =
+    IfOk-weaker result
+    (λ opened. (s : State) (stands : Stands printed old.flash.shown old.disk.shown s) → IsStable (settled old).flash → IsStable (settled old).disk → (opened.store.journal.geo ≡ stands.geo) × Kept printed opened.store new s s)
+    (λ opened. (s : State) (stands : Stands printed old.flash.shown old.disk.shown s) → (opened.store.journal.geo ≡ stands.geo) × Kept printed opened.store new s s)
+    (λ opened at s stands. at s stands (synced_is_stable old.flash) (synced_is_stable old.disk))
+    (subst
+    (λ (w : World). IfOk result (λ opened. (s : State) (stands : Stands printed w.flash.shown w.disk.shown s) → IsStable w.flash → IsStable w.disk → (opened.store.journal.geo ≡ stands.geo) × Kept printed opened.store new s s))
+    is kept)
+
+-- and where their snapshot is young they are opened
+pub opens_settled : (F : Type 0) (print : F) (printed : List ℕ → Fp) (result : Result (StoreOf F) OpenFault) (flash disk : List ℕ) (new : World) (size : Dev → ℕ)
+    → length flash ≡ size Flash → length disk ≡ size Disk → TellsOpening result size flash → IfOk result (λ opened. opened.print ≡ print)
+    → IfOk result (λ opened. (s : State) (stands : Stands printed flash disk s) → (opened.store.journal.geo ≡ stands.geo) × Kept printed opened.store new s s)
+    → (s : State) (stands : Stands printed flash disk s) → IsYoung stands → Opens print printed stands.geo result new s
+opens_settled F print printed result flash disk new size flash_size disk_size told same kept s stands young =
+    opens_if F print printed stands.geo result new s size flash (young_none printed flash disk size flash_size disk_size s stands young) told same
     (IfOk-weaker result
-    (λ opened. (t : State) (st : Stands printed flash old.disk.shown t) → IsStable (settled old).flash → IsStable (settled old).disk → (opened.store.journal.geo ≡ st.geo) × Kept printed opened.store new t t)
+    (λ opened. (t : State) (st : Stands printed flash disk t) → (opened.store.journal.geo ≡ st.geo) × Kept printed opened.store new t t)
     (λ opened. (opened.store.journal.geo ≡ stands.geo) × Kept printed opened.store new s s)
-    (λ opened at. at s stands (synced_is_stable old.flash) (synced_is_stable old.disk)) keeps)
+    (λ opened at. at s stands) kept)

@@ -68,5 +68,7 @@ pub record FoundMeans (print : List ℕ → Fp) (geo : Geometry) (found : Found)
 -- a store has the journal that was found, and the rows behind its records
 pub record HasFound (geo : Geometry) (found : Found) (store : StoreView) : Type 0 where
   pub journal : store.journal ≡ found.journal
+  pub version : found.head.version ≡ 2
+  pub counted : store.count ≡ found.journal.committed
   pub fit : RowsFit (found_table found)
   pub replayed : replay geo.acap geo.bcap (found_records found) (found_table found) ≡ Some store.table

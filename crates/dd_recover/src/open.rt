@@ -14,8 +14,8 @@ ghost use Rattle.dd_record.specs.Table.{Table, RowsFit};
 ghost use Rattle.dd_record.specs.Replay.{replay};
 ghost use Rattle.dd_model.specs.State.{State};
 ghost use Rattle.dd_journal.specs.Faults.{journal_fault};
-ghost use Rattle.dd_journal.specs.Found.{IsFound, IsFoundAs, IsReadOff, found_table, found_records};
-ghost use Rattle.dd_journal.specs.Regions.{Reading, Reads};
+ghost use Rattle.dd_journal.specs.Found.{IsFound, IsReadOff, found_table, found_records};
+ghost use Rattle.dd_journal.specs.Regions.{Says};
 ghost use Rattle.dd_journal.specs.Sitting.{IsStable, Sits};
 ghost use Rattle.dd_store.specs.Keeping.{Kept};
 ghost use Rattle.dd_store.specs.Meaning.{Stands};
@@ -49,6 +49,9 @@ pub fn open_store<F: Fingerprint, L: Lists, R: Rig>(
         → Opens print (F.printed print) stands.geo result (R.world rig.new) s }
     ensures fault { R.tells → TellsOpening result (R.device_size rig.old) (shown FlashDevice (R.world rig.old)) }
     ensures opened { IfOk result (λ opened. IsOpened opened.store (R.device_size rig.old)) }
+    ensures kept { R.tells → IfOk result (λ opened. (s : State) (stands : Stands (F.printed print) (shown FlashDevice (R.world rig.old)) (shown DiskDevice (R.world rig.old)) s)
+        → (opened.store.journal.geo ≡ stands.geo) × Kept (F.printed print) opened.store (R.world rig.new) s s) }
+    ensures says { R.tells → IfOk result (λ opened. Says (shown FlashDevice (R.world rig.old)) opened.store.journal.geo 2 opened.store.table opened.store.count) }
     ensures sits { R.tells → IfOk result (λ opened. Sits opened.store.journal (R.world rig.new) opened.store.table) }
     ensures print { IfOk result (λ opened. opened.print ≡ print) }
     ensures cause { IfErr result (λ fault. OpenFaulted fault (R.counts rig.old) (R.counts rig.new)) }
@@ -95,6 +98,7 @@ fn open_settled<F: Fingerprint, L: Lists, R: Rig>(
         → IsStable (R.world rig.old).flash → IsStable (R.world rig.old).disk
         → (opened.store.journal.geo ≡ stands.geo) × Kept (F.printed print) opened.store (R.world rig.new) s s) }
     ensures opened { IfOk result (λ opened. IsOpened opened.store (R.device_size rig.old)) }
+    ensures says { R.tells → IfOk result (λ opened. Says (shown FlashDevice (R.world rig.old)) opened.store.journal.geo 2 opened.store.table opened.store.count) }
     ensures sits { R.tells → IfOk result (λ opened. IsStable (R.world rig.old).flash → Sits opened.store.journal (R.world rig.new) opened.store.table) }
     ensures print { IfOk result (λ opened. opened.print ≡ print) }
     ensures synced { IsUnsynced result → ⊥ }

@@ -6,11 +6,12 @@ use Rattle.dd_rig.specs.World.{World}
 use Rattle.dd_rig.proofs.Moments.{goes_on_same}
 use Rattle.dd_layout.specs.Layout.{disk_need}
 use Rattle.dd_model.specs.State.{State}
+use Rattle.dd_journal.specs.Regions.{Says}
 use Rattle.dd_journal.specs.Sitting.{IsStable, Sits}
 use Rattle.dd_store.specs.Keeping.{Kept}
 use Rattle.dd_store.specs.Meaning.{Stands}
 use Rattle.dd_recover.specs.Stages.{FoundMeans, HasFound}
-use Rattle.dd_recover.proofs.FoundReading.{found_means, found_sits, ok_both}
+use Rattle.dd_recover.proofs.FoundReading.{found_means, found_says, found_sits, ok_both}
 use Rattle.dd_recover.proofs.Telling.{body_told, found_told}
 use Rattle.dd_recover.proofs.open.open_settled.Goals as goal
 
@@ -47,6 +48,17 @@ returns-clause-kept g c = λ told.
       keeps s (subst (λ (w : World). IsStable w.flash) (sym same) flash) (subst (λ (w : World). IsStable w.disk) (sym same) disk) large here.1,
     ))
     c.open_found.ensures.geometry (c.open_found.ensures.kept told)
+
+pub returns-clause-says : goal.returns-clause-says
+returns-clause-says g c = λ told.
+    let old = g.R.Rig.world c.args.rig.now in
+    let read = g.R.Rig.world c.read_geometry.new.rig in
+    let geo = c.in_ok-geo.geo in
+    let found = c.in_ok-found.found in
+    IfOk-weaker c.open_found.result (λ opened. HasFound geo found opened.store) (λ opened. Says old.flash.shown opened.store.journal.geo 2 opened.store.table opened.store.count)
+    (λ opened has. found_says geo found opened.store old.flash.shown read.flash.shown (ap (λ (w : World). w.flash.shown) (c.read_geometry.ensures.world told)) (c.in_ok-geo.ensures.geometry told)
+    c.in_ok-found.ensures.found (c.in_ok-found.ensures.reads told) has)
+    c.open_found.ensures.has
 
 pub returns-clause-sits : goal.returns-clause-sits
 returns-clause-sits g c = λ told.
