@@ -1,6 +1,12 @@
 pub mod Bounds
+pub mod FoundReading
 pub mod Fresh
 pub mod Laying
 pub mod Moments
+pub mod Opened
+pub mod Replaying
 pub mod Running
+pub mod Settled
+pub mod Telling
 pub mod Texts
+pub mod Young
