@@ -1,25 +1,19 @@
 -- Which condition comes first, from one part of an opening to the next.
-use Rattle.std.proofs.Common.{◌≡◌, ◌⊎◌, inl, inr, ℕ, ◌==◌, ◌^◌, ◌<◌, ◌≤◌, List, refl, sym, ◌∙◌, ap, subst, take, Some, None, Ok, Err}
-use Rattle.std.specs.Prelude.{Option, Result, option_map}
-use Rattle.std.specs.Option.{option_or}
+use Rattle.std.proofs.Common.{◌≡◌, inl, inr, ℕ, List, sym, ◌∙◌, subst, take, Some, None, Ok, Err}
+use Rattle.std.specs.Prelude.{Option, Result}
 use Rattle.std.specs.Result.{IsErrAnd}
 use Rattle.dd_block.specs.declared.geometry.Geometry.{Geometry}
 use Rattle.dd_rig.specs.declared.device.Dev.{Dev}
-use Rattle.dd_rig.specs.declared.tallies.Counts.{Counts}
-use Rattle.dd_rig.specs.Counts.{Rose}
 use Rattle.dd_layout.specs.Super.{super_text}
 use Rattle.dd_layout.proofs.Superblocks.{super_text_same}
-use Rattle.dd_journal.specs.declared.fault.JournalFault.{JournalFault}
-use Rattle.dd_journal.specs.declared.fault.JournalFault.TheVariants as journal_fault_is
-use Rattle.dd_journal.specs.Faults.{TellsFault}
 use Rattle.dd_journal.specs.declared.found.Found.{Found}
 use Rattle.dd_journal.specs.Found.{IsReadOff}
 use Rattle.dd_journal.specs.Regions.{Reading, Spells}
 use Rattle.dd_journal.proofs.Sole.{spells_one}
 use Rattle.dd_recover.specs.declared.opening_fault.OpenFault.{OpenFault}
 use Rattle.dd_recover.specs.declared.opening_fault.OpenFault.TheVariants.{Memory, FlashRead, FlashWrite, DiskWrite, FlashSmall, DiskSmall, Super, NoRegion, Snapshot, Group, Worn, Version1}
-use Rattle.dd_recover.specs.Opening.{front_fault, body_fault, reading_fault, opening_of, IsFirstFault, TellsOpening, IsUnsynced, OpenFaulted}
-use Rattle.dd_recover.specs.Stages.{Tells, IsCallFault, found_fault}
+use Rattle.dd_recover.specs.Opening.{front_fault, body_fault, reading_fault, IsFirstFault, TellsOpening}
+use Rattle.dd_recover.specs.Stages.{Tells, found_fault}
 use Rattle.dd_recover.proofs.FoundReading.{found_fault_is, spells_of}
 
 -- a refusal that is the first condition tells the opening's answer
