@@ -1,4 +1,4 @@
--- Which condition comes first, from one part of an opening to the next.
+-- Which condition comes first, by the parts of an opening.
 use Rattle.std.proofs.Common.{◌≡◌, inl, inr, ℕ, List, sym, ◌∙◌, subst, take, Some, None, Ok, Err}
 use Rattle.std.specs.Prelude.{Option, Result}
 use Rattle.std.specs.Result.{IsErrAnd}
@@ -55,7 +55,7 @@ module _ (size : Dev → ℕ) (flash : List ℕ) where
       told_in_reading (Ok value) h = none_first h
       told_in_reading {T} (Err e) h = told_of T T e (reading_fault r) size flash h (λ f is. inr (front, geo, text, inr (body, r, spells, same, is)))
 
--- the geometry was read, and then the flash is read that it changed nothing of
+-- behind the read of the geometry, which changed neither the sizes nor what the flash shows
 module _ (size middle : Dev → ℕ) (flash bytes : List ℕ) (geo : Geometry) (sizes : middle ≡ size) (shows : bytes ≡ flash) (front : front_fault size flash ≡ None) (text : take 64 flash ≡ super_text geo) where
   -- it is refused by the geometry
   pub body_told : (U : Type 0) (result : Result U OpenFault) (e : OpenFault) → IsErrAnd result (λ x. x ≡ e) → Tells {T = Found} (Err e) (body_fault geo middle bytes) → TellsOpening result size flash
