@@ -1,5 +1,5 @@
 -- What was found of a flash is what its one reading says.
-use Rattle.std.proofs.Common.{◌≡◌, ℕ, List, length, take, refl, sym, ◌∙◌, ap, subst, Some, Ok, Err}
+use Rattle.std.proofs.Common.{◌≡◌, ℕ, List, take, sym, ◌∙◌, ap, subst, Some, Ok, Err}
 use Rattle.std.specs.Prelude.{Result, IfOk}
 use Rattle.dd_block.specs.Bytes.{StandsAt}
 use Rattle.dd_block.specs.declared.geometry.Geometry.{Geometry}
@@ -7,15 +7,13 @@ use Rattle.dd_block.specs.declared.print.Fp.{Fp}
 use Rattle.dd_rig.specs.World.{World}
 use Rattle.dd_layout.specs.Super.{super_text}
 use Rattle.dd_record.specs.declared.head.Head.{Head}
-use Rattle.dd_record.specs.declared.rec.Rec.{Rec}
 use Rattle.dd_record.specs.Table.{Table, RowsFit}
 use Rattle.dd_record.specs.Replay.{replay, count_after}
 use Rattle.dd_model.specs.State.{State}
 use Rattle.dd_journal.specs.declared.found.Found.{Found}
-use Rattle.dd_journal.specs.declared.found.Placed.{Placed}
 use Rattle.dd_journal.specs.Found.{IsFound, IsFoundAs, IsReadOff, found_table, found_records}
 use Rattle.dd_journal.specs.Logged.{placed_records}
-use Rattle.dd_journal.specs.Regions.{Reading, Reads, Says, Spells, head_of, records_of}
+use Rattle.dd_journal.specs.Regions.{Reading, Reads, Says, Spells, records_of}
 use Rattle.dd_journal.specs.Sitting.{JournalView, IsStable, Sits}
 use Rattle.dd_journal.proofs.Finds.{found_records_are}
 use Rattle.dd_journal.proofs.Sole.{spells_one}

@@ -1,6 +1,6 @@
 -- Rows, and the records that are applied to them one after the other.
-use Rattle.std.proofs.Common.{◌≡◌, ℕ, zero, suc, ◌+◌, ◌<◌, ◌≤◌, ◌==◌, Bool, true, false, cond, List, [], ◌∷◌, ◌++◌, length, get_or, refl, sym, ◌∙◌, ap, subst, arith, Some, None}
-use Rattle.std.specs.Prelude.{Option, ◌||◌, IsTrue, option_and_then, option_map}
+use Rattle.std.proofs.Common.{◌≡◌, ℕ, zero, suc, ◌+◌, ◌<◌, ◌==◌, Bool, true, false, cond, List, [], ◌∷◌, ◌++◌, length, get_or, refl, sym, ◌∙◌, ap, subst, arith, Some, None}
+use Rattle.std.specs.Prelude.{◌||◌, IsTrue}
 use Rattle.std.specs.List.{AllByRecursion, flat_map}
 use Rattle.std.proofs.lemmas.Bool.{eqb-true}
 use Rattle.std.proofs.lemmas.List.{map-append}
@@ -8,7 +8,7 @@ use Rattle.dd_block.specs.declared.geometry.Geometry.{Geometry}
 use Rattle.dd_record.specs.declared.rec.Rec.{Rec}
 use Rattle.dd_record.specs.Spelling.{IsVersion}
 use Rattle.dd_record.specs.Table.{Table, RowsFit}
-use Rattle.dd_record.specs.Replay.{after_rec, replay}
+use Rattle.dd_record.specs.Replay.{replay}
 use Rattle.dd_record.proofs.Replayed.{AreListed, replay_listed}
 use Rattle.dd_model.specs.Applying.{IsSlotBelow}
 use Rattle.dd_model.specs.Listing.{Listing, empty_listing, restored}
@@ -17,9 +17,8 @@ use Rattle.dd_journal.specs.declared.found.Placed.{Placed}
 use Rattle.dd_journal.specs.Found.{IsFound, found_table, found_records}
 use Rattle.dd_journal.specs.Logged.{placed_from, placed_groups}
 use Rattle.dd_journal.specs.Regions.{AreRows, group_size}
-use Rattle.dd_recover.specs.declared.opening_fault.OpenFault.{OpenFault}
 use Rattle.dd_recover.specs.declared.opening_fault.OpenFault.TheVariants.{Version1}
-use Rattle.dd_recover.specs.Opening.{unfit_or, first_unfit, version_fault}
+use Rattle.dd_recover.specs.Opening.{version_fault}
 use Rattle.dd_recover.specs.Stages.{recs_of}
 
 -- the slot of each record of a list

@@ -1,5 +1,5 @@
 -- Devices that were synced, and then only read.
-use Rattle.std.proofs.Common.{◌≡◌, inl, inr, ⊎_elim, ◌≤◌, ℕ, List, sym, subst}
+use Rattle.std.proofs.Common.{◌≡◌, ⊎_elim, ◌≤◌, ℕ, List, sym, subst}
 use Rattle.dd_rig.specs.Device.{IsImage}
 use Rattle.dd_rig.specs.World.{World, Outcome, MayLeave, IsOwn}
 use Rattle.dd_rig.specs.Clock.{Clock, AddsNone}

@@ -1,25 +1,19 @@
--- Which condition comes first, from one part of an opening to the next.
-use Rattle.std.proofs.Common.{◌≡◌, ◌⊎◌, inl, inr, ℕ, ◌==◌, ◌^◌, ◌<◌, ◌≤◌, List, refl, sym, ◌∙◌, ap, subst, take, Some, None, Ok, Err}
-use Rattle.std.specs.Prelude.{Option, Result, option_map}
-use Rattle.std.specs.Option.{option_or}
+-- Which condition comes first, by the parts of an opening.
+use Rattle.std.proofs.Common.{◌≡◌, inl, inr, ℕ, List, sym, ◌∙◌, subst, take, Some, None, Ok, Err}
+use Rattle.std.specs.Prelude.{Option, Result}
 use Rattle.std.specs.Result.{IsErrAnd}
 use Rattle.dd_block.specs.declared.geometry.Geometry.{Geometry}
 use Rattle.dd_rig.specs.declared.device.Dev.{Dev}
-use Rattle.dd_rig.specs.declared.tallies.Counts.{Counts}
-use Rattle.dd_rig.specs.Counts.{Rose}
 use Rattle.dd_layout.specs.Super.{super_text}
 use Rattle.dd_layout.proofs.Superblocks.{super_text_same}
-use Rattle.dd_journal.specs.declared.fault.JournalFault.{JournalFault}
-use Rattle.dd_journal.specs.declared.fault.JournalFault.TheVariants as journal_fault_is
-use Rattle.dd_journal.specs.Faults.{TellsFault}
 use Rattle.dd_journal.specs.declared.found.Found.{Found}
 use Rattle.dd_journal.specs.Found.{IsReadOff}
 use Rattle.dd_journal.specs.Regions.{Reading, Spells}
 use Rattle.dd_journal.proofs.Sole.{spells_one}
 use Rattle.dd_recover.specs.declared.opening_fault.OpenFault.{OpenFault}
 use Rattle.dd_recover.specs.declared.opening_fault.OpenFault.TheVariants.{Memory, FlashRead, FlashWrite, DiskWrite, FlashSmall, DiskSmall, Super, NoRegion, Snapshot, Group, Worn, Version1}
-use Rattle.dd_recover.specs.Opening.{front_fault, body_fault, reading_fault, opening_of, IsFirstFault, TellsOpening, IsUnsynced, OpenFaulted}
-use Rattle.dd_recover.specs.Stages.{Tells, IsCallFault, found_fault}
+use Rattle.dd_recover.specs.Opening.{front_fault, body_fault, reading_fault, IsFirstFault, TellsOpening}
+use Rattle.dd_recover.specs.Stages.{Tells, found_fault}
 use Rattle.dd_recover.proofs.FoundReading.{found_fault_is, spells_of}
 
 -- a refusal that is the first condition tells the opening's answer
@@ -61,7 +55,7 @@ module _ (size : Dev → ℕ) (flash : List ℕ) where
       told_in_reading (Ok value) h = none_first h
       told_in_reading {T} (Err e) h = told_of T T e (reading_fault r) size flash h (λ f is. inr (front, geo, text, inr (body, r, spells, same, is)))
 
--- the geometry was read, and then the flash is read that it changed nothing of
+-- behind the read of the geometry, which changed neither the sizes nor what the flash shows
 module _ (size middle : Dev → ℕ) (flash bytes : List ℕ) (geo : Geometry) (sizes : middle ≡ size) (shows : bytes ≡ flash) (front : front_fault size flash ≡ None) (text : take 64 flash ≡ super_text geo) where
   -- it is refused by the geometry
   pub body_told : (U : Type 0) (result : Result U OpenFault) (e : OpenFault) → IsErrAnd result (λ x. x ≡ e) → Tells {T = Found} (Err e) (body_fault geo middle bytes) → TellsOpening result size flash

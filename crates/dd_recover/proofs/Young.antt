@@ -1,5 +1,5 @@
 -- Devices that stand for a state, by a snapshot that is young, are refused for nothing.
-use Rattle.std.proofs.Common.{◌≡◌, ℕ, ◌+◌, ◌<◌, ◌≤◌, ◌==◌, ◌^◌, Bool, List, [], ◌∷◌, length, take, refl, sym, ◌∙◌, ap, subst, arith, Some, None, Ok, Err}
+use Rattle.std.proofs.Common.{◌≡◌, ℕ, ◌+◌, ◌≤◌, Bool, List, [], ◌∷◌, length, take, refl, sym, ◌∙◌, ap, subst, arith, Some, None, Ok, Err}
 use Rattle.std.specs.Prelude.{Option, Result, IfOk, nat_lt, if◌then◌else◌, option_and_then, option_map}
 use Rattle.std.specs.Option.{option_or}
 use Rattle.std.proofs.lemmas.Bool.{le-ltb}
@@ -19,11 +19,10 @@ use Rattle.dd_record.proofs.Misfits.{no_misfit}
 use Rattle.dd_model.specs.State.{State}
 use Rattle.dd_model.specs.declared.given.Misfit.{Misfit}
 use Rattle.dd_model.specs.Listing.{misfit_or, misfit_of}
-use Rattle.dd_journal.specs.declared.fault.JournalFault.{JournalFault}
 use Rattle.dd_journal.specs.declared.found.Placed.{Placed}
 use Rattle.dd_journal.specs.Faults.{journal_fault}
 use Rattle.dd_journal.specs.Logged.{placed_records}
-use Rattle.dd_journal.specs.Regions.{Reading, Spells, head_of, log_begins, records_of}
+use Rattle.dd_journal.specs.Regions.{Reading, head_of, log_begins, records_of}
 use Rattle.dd_journal.specs.Sitting.{IsStable}
 use Rattle.dd_journal.proofs.Reaching.{synced_is_stable}
 use Rattle.dd_journal.proofs.Sole.{no_fault}

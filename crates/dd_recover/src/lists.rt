@@ -1,5 +1,5 @@
 // The lists that rows and records lead to.
-ghost use Rattle.std.specs.Prelude.{◌≡◌, ◌+◌, ◌<◌, ◌≤◌, Some, None, length, IfOk, OnOk, IfErr, MatchOption};
+ghost use Rattle.std.specs.Prelude.{◌≡◌, ◌+◌, ◌<◌, ◌≤◌, Some, None, IfOk, OnOk, IfErr};
 ghost use Rattle.std.specs.List.{AllByRecursion};
 ghost use Rattle.dd_block.specs.Geometry.{slot_count, GivesFault};
 ghost use Rattle.dd_layout.specs.Layout as layout;
@@ -8,7 +8,7 @@ ghost use Rattle.dd_record.specs.Table.{RowsFit};
 ghost use Rattle.dd_model.specs.Listing.{empty_listing, restored};
 ghost use Rattle.dd_model.specs.Applying.{IsSlotBelow, SameLimits};
 ghost use Rattle.dd_journal.specs.Found.{IsFound, found_table, found_records};
-ghost use Rattle.dd_journal.specs.Regions.{AreRows, table_of};
+ghost use Rattle.dd_journal.specs.Regions.{AreRows};
 ghost use Rattle.dd_store.specs.Serving.{HasLimits};
 ghost use Rattle.dd_recover.specs.Opening.{misfit_at, version_fault};
 ghost use Rattle.dd_recover.specs.Stages.{Tells, IsCallFault, rows_refused, records_refused, found_fault, recs_of};

@@ -34,11 +34,12 @@ use dd_store::Store;
 use std::alloc::Global;
 
 /// Opens the cache that both devices stand for. It syncs the flash, then the disk, then reads the flash:
-/// the superblock, the front of each region, and the region that counts. It writes nothing. Where the
-/// devices stand for a state, with an epoch and a count of the snapshot below 2^62, an Ok holds that
-/// state and has committed it. Else the fault is the first one in the order of docs/format.md, with its
-/// place or its value; a flash of version 1 is refused behind all other conditions. It takes all the
-/// memory that serving wants.
+/// the superblock, the front of each region, and the region that counts. It writes nothing. An Ok has the
+/// rows and the count that the flash says; where the devices stand for a state, it holds that state and
+/// has committed it. Devices that stand for a state, with an epoch and a count of the snapshot below 2^62,
+/// are opened unless there is no memory or a call fails. Else the fault is the first one in the order of
+/// docs/format.md, with its place or its value; a flash of version 1 is refused behind all other
+/// conditions. It takes all the memory that serving wants.
 pub fn open_store<F: Fingerprint, L: Lists, R: Rig>(
     alloc: Global,
     rig: &mut R,

@@ -1,11 +1,11 @@
-use Rattle.std.proofs.Common.{◌≡◌, ◌≤◌, ℕ, List, []}
+use Rattle.std.proofs.Common.{◌≡◌, ◌≤◌, []}
 use Rattle.dd_rig.specs.declared.device.Dev.TheVariants.{Disk}
 use Rattle.dd_layout.specs.Layout.{disk_need}
 use Rattle.dd_model.specs.State.{State}
 use Rattle.dd_journal.specs.Sitting.{IsStable, Sits}
 use Rattle.dd_store.specs.Keeping.{Kept}
 use Rattle.dd_store.specs.Meaning.{Means}
-use Rattle.dd_store.specs.Serving.{StoreOf, store_of}
+use Rattle.dd_store.specs.Serving.{store_of}
 use Rattle.dd_recover.specs.Opening.{IsOpened}
 use Rattle.dd_recover.specs.Stages.{FoundMeans}
 use Rattle.dd_recover.proofs.Opened.{ok_along, opened_is, found_kept}
