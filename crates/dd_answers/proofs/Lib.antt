@@ -1,2 +1,5 @@
 pub mod Stepping
 pub mod Replying
+pub mod Finishing
+pub mod Lasting
+pub mod Ended

@@ -1,5 +1,5 @@
 -- The promise on crashes, as a property of one outcome.
-use Rattle.std.specs.Prelude.{◌≡◌, ◌≤◌, ◌+◌, ℕ, List, ◌++◌, length}
+use Rattle.std.specs.Prelude.{◌≡◌, ◌⊎◌, ◌≤◌, ◌+◌, ℕ, List, ◌++◌, length}
 use Rattle.dd_block.specs.declared.print.Fp.{Fp}
 use Rattle.dd_rig.specs.World.{World, Outcome, IsOwn}
 use Rattle.dd_model.specs.State.{Sizes, State}
@@ -33,3 +33,7 @@ pub record IsUnopened (old : World) (o : Outcome) : Type 0 where
   pub more : List ℕ
   pub part : ended line ≡ rest ++ more
   pub out : o.out ≡ old.said ++ rest
+
+-- The promise on crashes: nothing was opened yet, or the devices stand for the state after one prefix.
+abbrev pub Promise : (List ℕ → Fp) → Sizes → State → List Command → World → Outcome → Type 0
+Promise print sizes start commands old o = IsUnopened old o ⊎ Headline print sizes start commands old.said o

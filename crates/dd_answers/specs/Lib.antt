@@ -2,3 +2,4 @@ pub mod Answering
 pub mod Laws
 pub mod Headline
 pub mod Serving
+pub mod Opening

@@ -1,42 +1,28 @@
 -- What a run that serves a script says, how it ends, and why.
-use Rattle.std.specs.Prelude.{◌≡◌, ◌≢◌, ◌⊎◌, ◌++◌, ◌<◌, ◌≤◌, ℕ, Bool, false, List, [], ⊤}
+use Rattle.std.specs.Prelude.{◌≡◌, ◌≢◌, ◌⊎◌, ◌++◌, ◌<◌, ◌≤◌, ℕ, Bool, false, List, [], Result, Ok, Err, ⊤}
 use Rattle.dd_block.specs.declared.print.Fp.{Fp}
 use Rattle.dd_rig.specs.Device.{IsImage}
 use Rattle.dd_rig.specs.World.{World, Outcome, MayLeave}
 use Rattle.dd_rig.specs.declared.tallies.Counts.{Counts}
 use Rattle.dd_rig.specs.Counts.{IsStill, Rose}
 use Rattle.dd_model.specs.State.{Sizes, State}
-use Rattle.dd_recover.specs.declared.opening_fault.OpenFault.{OpenFault}
-use Rattle.dd_recover.specs.declared.opening_fault.OpenFault.TheVariants as open_fault
 use Rattle.dd_script.specs.Answers.{Answers, AnswersAll}
 use Rattle.dd_script.specs.Command.{Command}
 use Rattle.dd_script.specs.Output.{dialect_of, output_of}
 use Rattle.dd_script.specs.Reading.{script_limit}
 use Rattle.dd_script.specs.Script.{lines_of, commands_of, EndsWithin}
 use Rattle.dd_script.specs.Text.{stop_text}
-use Rattle.dd_script.specs.declared.reply.Refusal.TheVariants as refusal
 use Rattle.dd_script.specs.declared.reply.Stop.{Stop}
 use Rattle.dd_script.specs.declared.reply.Stop.TheVariants as stop
 use Rattle.dd_loop.specs.declared.ending.Ending.{Ending}
 use Rattle.dd_loop.specs.declared.ending.Ending.TheVariants.{Served, Refused, Stopped, Unheard}
-use Rattle.dd_loop.specs.Answering.{CountsFaults, HasFault}
+use Rattle.dd_loop.specs.Answering.{CountsFaults, HasFault, Pays}
 use Rattle.dd_loop.specs.Ending.{status_of}
 use Rattle.dd_loop.specs.Saying.{EndsIn}
-
--- how a run ends whose devices weren't opened
-abbrev pub ending_of : OpenFault → Ending
-ending_of (open_fault.Memory e) = Stopped stop.Memory
-ending_of open_fault.FlashRead = Stopped stop.Flash
-ending_of open_fault.FlashWrite = Stopped stop.Flash
-ending_of open_fault.DiskWrite = Stopped stop.Disk
-ending_of (open_fault.FlashSmall need have) = Refused (refusal.FlashSmall need have)
-ending_of (open_fault.DiskSmall need have) = Refused (refusal.DiskSmall need have)
-ending_of (open_fault.Super fault) = Refused (refusal.Super fault)
-ending_of open_fault.NoRegion = Refused refusal.NoRegion
-ending_of (open_fault.Snapshot region at) = Refused (refusal.Snapshot region at)
-ending_of (open_fault.Group region at) = Refused (refusal.Group region at)
-ending_of (open_fault.Worn value) = Refused (refusal.Worn value)
-ending_of open_fault.Version1 = Refused refusal.Version1
+use Rattle.dd_loop.specs.Serving.{ServedAll, ServedUpTo}
+use Rattle.dd_loop.specs.declared.halt.Halt.TheVariants as halts
+use Rattle.dd_loop.specs.declared.halt.Halt.{Halt}
+use Rattle.dd_answers.specs.Answering.{StandsBy}
 
 -- a script has fewer than 2^40 bytes, or a whole line q among so many
 abbrev pub IsBounded : Sizes → List ℕ → Type 0
@@ -59,9 +45,9 @@ module _ (print : List ℕ → Fp) (sizes : Sizes) (start : State) (script : Lis
   -- a fault; where it stopped the line that says why is the last; and where an emit failed nothing is said behind it
   abbrev pub Ends : Ending → (output : List ℕ) → (before after : Counts) → Type 0
   Ends (Served faulted) output before after = AnswersAll print sizes start (commands_of (dialect_of sizes) script) output × HasFault faulted (lines_of output).whole
-      × (faulted ≡ false → output ≡ output_of print sizes start (commands_of (dialect_of sizes) script))
+      × (faulted ≡ false → output ≡ output_of print sizes start (commands_of (dialect_of sizes) script)) × IsBounded sizes script
   Ends (Refused why) output before after = ⊥
-  Ends (Stopped why) output before after = EndsIn (stop_text why) output before after
+  Ends (Stopped why) output before after = EndsIn (stop_text why) output before after × (why ≡ stop.Length → IsBounded sizes script → ⊥)
   Ends Unheard output before after = ⊤
 
   -- What a run says that serves a script over devices which stand for the state at its start, whatever fails.
@@ -77,3 +63,26 @@ module _ (print : List ℕ → Fp) (sizes : Sizes) (start : State) (script : Lis
     pub ending : Ending
     pub status_is : status ≡ status_of ending
     pub ends : Ends ending output before after
+
+-- how the loop over the lines ends
+abbrev pub served_ending : Result Bool Halt → Ending
+served_ending (Ok faulted) = Served faulted
+served_ending (Err halts.Output) = Unheard
+served_ending (Err (halts.Stopped why)) = Stopped why
+
+-- the script was served
+abbrev pub IsServed : Ending → Type 0
+IsServed (Served faulted) = ⊤
+IsServed ending = ⊥
+
+-- no more lines say that a read failed than reads failed
+abbrev pub FaultsPaid : (before after : Counts) → List (List ℕ) → ℕ → Type 0
+FaultsPaid before after lines more = Pays (λ ls m p q. Unit {0}) before after lines more
+
+-- what was said and what is left where the loop over the lines of a script ended so, over a store that held a state
+module _ (print : List ℕ → Fp) (sizes : Sizes) (start : State) (commands : List Command) where
+  abbrev pub LoopEnds : Ending → (said : List ℕ) → (new : World) → (before after : Counts) → Type 0
+  LoopEnds (Served faulted) said new before after = ServedAll print sizes (StandsBy print) start commands (FaultsPaid before after) faulted said new
+  LoopEnds (Refused why) said new before after = ⊥
+  LoopEnds (Stopped why) said new before after = ServedUpTo print sizes (StandsBy print) start commands (FaultsPaid before after) (halts.Stopped why) said new
+  LoopEnds Unheard said new before after = ServedUpTo print sizes (StandsBy print) start commands (FaultsPaid before after) halts.Output said new

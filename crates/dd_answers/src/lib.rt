@@ -7,5 +7,8 @@
 
 mod cache;
 mod lines;
+mod opening;
+mod serving;
 
 pub use cache::StoreCache;
+pub use opening::serve;

@@ -1,0 +1,63 @@
+use Rattle.std.proofs.Common.{ℕ, List, subst}
+use Rattle.std.specs.Prelude.{IfOk, IfErr, OnOk}
+use Rattle.dd_block.specs.declared.print.Fp.{Fp}
+use Rattle.dd_rig.specs.Clock.{Elapses}
+use Rattle.dd_rig.specs.Counts.{Rose}
+use Rattle.dd_rig.specs.World.{World}
+use Rattle.dd_model.specs.State.{Sizes}
+use Rattle.dd_script.specs.Output.{dialect_of}
+use Rattle.dd_script.specs.Reading.{Held, left, fuel, IsTakenTo}
+use Rattle.dd_script.specs.Script.{commands_of, EndsWithin}
+use Rattle.dd_store.specs.Meaning.{sizes_of}
+use Rattle.dd_loop.specs.Halting.{Halts}
+use Rattle.dd_loop.specs.Serving.{ServedAll, ServedUpTo}
+use Rattle.dd_loop.specs.Standing.{StandForPrefix}
+use Rattle.dd_answers.specs.Answering.{StandsBy}
+use Rattle.dd_answers.specs.Serving.{FaultsPaid}
+use Rattle.dd_answers.proofs.Finishing.{ok_both}
+use Rattle.dd_answers.proofs.serving.serve_script.Goals as goal
+
+pub returns-clause-crash : goal.returns-clause-crash
+returns-clause-crash g c = λ t u start kept.
+    let old : World = g.R.Rig.world c.args.rig.now in
+    let print : List ℕ → Fp = g.F.Fingerprint.printed c.args.store.print in
+    let sizes : Sizes = sizes_of c.args.store.store.journal.geo in
+    subst (λ (h : Held). Elapses (g.R.Rig.clock c.args.rig.now) (g.R.Rig.clock c.serve_lines.new.rig)
+    (StandForPrefix (StandsBy print) print sizes start (commands_of (dialect_of sizes) (left h (g.S.Source.rest c.args.source.now))) old.said)) c.in_ok-reader.ensures
+    (c.serve_lines.ensures.crash t u old start kept)
+
+pub returns-clause-all : goal.returns-clause-all
+returns-clause-all g c = λ t u start kept.
+    let old : World = g.R.Rig.world c.args.rig.now in
+    let new : World = g.R.Rig.world c.serve_lines.new.rig in
+    let print : List ℕ → Fp = g.F.Fingerprint.printed c.args.store.print in
+    let sizes : Sizes = sizes_of c.args.store.store.journal.geo in
+    subst (λ (h : Held). IfOk c.serve_lines.result (λ faulted. ServedAll print sizes (StandsBy print) start (commands_of (dialect_of sizes) (left h (g.S.Source.rest c.args.source.now)))
+    (FaultsPaid (g.R.Rig.counts c.args.rig.now) (g.R.Rig.counts c.serve_lines.new.rig)) faulted old.said new)) c.in_ok-reader.ensures
+    (c.serve_lines.ensures.all t u old start kept)
+
+pub returns-clause-some : goal.returns-clause-some
+returns-clause-some g c = λ t u start kept.
+    let old : World = g.R.Rig.world c.args.rig.now in
+    let new : World = g.R.Rig.world c.serve_lines.new.rig in
+    let print : List ℕ → Fp = g.F.Fingerprint.printed c.args.store.print in
+    let sizes : Sizes = sizes_of c.args.store.store.journal.geo in
+    subst (λ (h : Held). IfErr c.serve_lines.result (λ halt. ServedUpTo print sizes (StandsBy print) start (commands_of (dialect_of sizes) (left h (g.S.Source.rest c.args.source.now)))
+    (FaultsPaid (g.R.Rig.counts c.args.rig.now) (g.R.Rig.counts c.serve_lines.new.rig)) halt old.said new)) c.in_ok-reader.ensures
+    (c.serve_lines.ensures.some t u old start kept)
+
+pub returns-clause-taken : goal.returns-clause-taken
+returns-clause-taken g c = λ u.
+    let sizes : Sizes = sizes_of c.args.store.store.journal.geo in
+    let rest : List ℕ = g.S.Source.rest c.args.source.now in
+    subst (λ (h : Held). OnOk c.serve_lines.result (IsTakenTo (dialect_of sizes) (left h rest) (g.S.Source.rest c.serve_lines.new.source) × EndsWithin (fuel h) (dialect_of sizes) (left h rest))) c.in_ok-reader.ensures
+    (ok_both c.serve_lines.result (IsTakenTo (dialect_of sizes) (left c.in_ok-reader.reader rest) (g.S.Source.rest c.serve_lines.new.source)) (EndsWithin (fuel c.in_ok-reader.reader) (dialect_of sizes) (left c.in_ok-reader.reader rest))
+    (c.serve_lines.ensures.taken u) (c.serve_lines.ensures.bounded u))
+
+pub returns-clause-halt : goal.returns-clause-halt
+returns-clause-halt g c =
+    let sizes : Sizes = sizes_of c.args.store.store.journal.geo in
+    let rest : List ℕ = g.S.Source.rest c.args.source.now in
+    subst (λ (h : Held). IfErr c.serve_lines.result (λ halt. Halts (λ device. Unit {0}) (Rose (g.S.Source.failures c.args.source.now) (g.S.Source.failures c.serve_lines.new.source))
+    (g.S.Source.tells → EndsWithin (fuel h) (dialect_of sizes) (left h rest) → ⊥) halt (g.R.Rig.counts c.args.rig.now) (g.R.Rig.counts c.serve_lines.new.rig))) c.in_ok-reader.ensures
+    c.serve_lines.ensures.halt
