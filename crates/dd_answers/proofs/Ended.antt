@@ -33,7 +33,7 @@ use Rattle.dd_loop.specs.Saying.{EndsIn, IsIdle, SaysAlone}
 use Rattle.dd_loop.specs.Serving.{ServedUpTo}
 use Rattle.dd_loop.proofs.Reading.{commands_some}
 use Rattle.dd_store.specs.Serving.{StoreOf}
-use Rattle.dd_answers.specs.Headline.{Headline, IsUnopened, Promise}
+use Rattle.dd_answers.specs.Headline.{IsUnopened}
 use Rattle.dd_answers.specs.Opening.{ending_of, IsUnserved, Refuses}
 use Rattle.dd_answers.specs.Serving.{Caused, Ends, FaultsPaid, IsBounded, IsServed, LoopEnds, Serves}
 use Rattle.dd_answers.proofs.Finishing.{unserved}

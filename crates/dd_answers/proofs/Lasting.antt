@@ -234,8 +234,7 @@ module _ (print : List ℕ → Fp) (sizes : Sizes) (start : State) (script : Lis
       let is : new.said ≡ old.said ++ (flat_map ended so.lines ++ []) = says ∙ so.said ∙ ap (λ (l : List ℕ). old.said ++ (flat_map ended so.lines ++ l)) ends.nothing_more in
       let e : record { whole = so.lines; rest = [] } ≡ lines_of (flat_map ended so.lines ++ []) = sym (lines_of-lines so.lines [] so.whole tt) in
       serves_lines (Served faulted) status old new before after so.lines [] is so.whole tt (tell-part print sizes so.lines start (commands_of (dialect_of sizes) script) [] so.answered (inl refl))
-      (counts_later so.lines before between after so.paid.1 more) (λ calm. refl) status_is
-      (
+      (counts_later so.lines before between after so.paid.1 more) (λ calm. refl) status_is (
         record {
           answered = subst (λ (l : Lines). Answered print sizes start (commands_of (dialect_of sizes) script) l.whole) e so.answered;
           all = subst (λ (l : Lines). length l.whole ≡ length (commands_of (dialect_of sizes) script)) e ends.all;

@@ -1,12 +1,16 @@
 -- The promise on crashes, as a property of one outcome.
 use Rattle.std.specs.Prelude.{◌≡◌, ◌⊎◌, ◌≤◌, ◌+◌, ℕ, List, ◌++◌, length}
 use Rattle.dd_block.specs.declared.print.Fp.{Fp}
-use Rattle.dd_rig.specs.World.{World, Outcome, IsOwn}
+use Rattle.dd_rig.specs.World.{World, Outcome, IsOwn, shown}
+use Rattle.dd_rig.specs.declared.device.Dev.TheVariants.{Flash, Disk}
 use Rattle.dd_model.specs.State.{Sizes, State}
 use Rattle.dd_script.specs.Answers.{taken, state_after, acknowledged, Answers, IsStopped}
 use Rattle.dd_script.specs.Command.{Command}
+use Rattle.dd_recover.specs.Opening.{IsYoung}
+use Rattle.dd_script.specs.Output.{dialect_of}
+use Rattle.dd_script.specs.Script.{commands_of}
 use Rattle.dd_script.specs.Text.{ended}
-use Rattle.dd_store.specs.Meaning.{Stands}
+use Rattle.dd_store.specs.Meaning.{Stands, sizes_of}
 
 -- The two devices stand for the array and both lists after one prefix of the answered reads and writes, no shorter than any flush
 -- acknowledged in the output. It reads the outcome's own output, so it is the same property at each moment of a run. The run began in a
@@ -34,6 +38,17 @@ pub record IsUnopened (old : World) (o : Outcome) : Type 0 where
   pub part : ended line ≡ rest ++ more
   pub out : o.out ≡ old.said ++ rest
 
+-- the devices show what stands for a state, with a snapshot whose epoch and count are below 2^62
+pub record Begins (print : List ℕ → Fp) (world : World) : Type 0 where
+  pub start : State
+  pub stands : Stands print (shown Flash world) (shown Disk world) start
+  pub young : IsYoung stands
+
+-- the sizes that the flash says
+abbrev pub sizes_from : {print : List ℕ → Fp} {world : World} → Begins print world → Sizes
+sizes_from from = sizes_of from.stands.geo
+
 -- The promise on crashes: nothing was opened yet, or the devices stand for the state after one prefix.
-abbrev pub Promise : (List ℕ → Fp) → Sizes → State → List Command → World → Outcome → Type 0
-Promise print sizes start commands old o = IsUnopened old o ⊎ Headline print sizes start commands old.said o
+abbrev pub Promises : {print : List ℕ → Fp} {world : World} → Begins print world → (script : List ℕ) → Outcome → Type 0
+Promises {print} {world} from script o =
+    IsUnopened world o ⊎ Headline print (sizes_from from) from.start (commands_of (dialect_of (sizes_from from)) script) world.said o

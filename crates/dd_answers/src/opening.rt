@@ -1,19 +1,19 @@
 // Serving a script over two devices: the opening, the lines, and the last line.
 ghost use Rattle.std.specs.Prelude.{◌≡◌, ◌≢◌, ◌⊎◌, ◌+◌, ◌≤◌, ℕ};
-ghost use Rattle.dd_rig.specs.declared.device.Dev.TheVariants.{Flash as FlashDevice, Disk as DiskDevice};
+ghost use Rattle.dd_rig.specs.declared.device.Dev.TheVariants.{Flash as FlashDevice};
 ghost use Rattle.dd_rig.specs.Clock.{Elapses};
 ghost use Rattle.dd_rig.specs.Counts.{Frame, IsQuiet, IsStill, Makes, up_to};
 ghost use Rattle.dd_rig.specs.World.{Outcome, MayLeave, shown};
 ghost use Rattle.dd_model.specs.State.{Sizes, State};
-ghost use Rattle.dd_recover.specs.Opening.{IsFirstFault, IsYoung};
+ghost use Rattle.dd_recover.specs.Opening.{IsFirstFault};
 ghost use Rattle.dd_script.specs.Output.{dialect_of};
 ghost use Rattle.dd_script.specs.Reading.{IsTakenTo, script_limit};
 ghost use Rattle.dd_script.specs.Script.{commands_of};
 ghost use Rattle.dd_store.specs.Keeping.{Kept};
-ghost use Rattle.dd_store.specs.Meaning.{Stands, sizes_of};
+ghost use Rattle.dd_store.specs.Meaning.{sizes_of};
 ghost use Rattle.dd_loop.specs.Saying.{IsIdle};
 ghost use Rattle.dd_answers.specs.Answering.{MayAnswer};
-ghost use Rattle.dd_answers.specs.Headline.{Headline, Promise};
+ghost use Rattle.dd_answers.specs.Headline.{Begins, Headline, Promises, sizes_from};
 ghost use Rattle.dd_answers.specs.Opening.{IsCaused, IsUnserved, Refuses, ending_of};
 ghost use Rattle.dd_answers.specs.Serving.{IsBounded, Serves};
 
@@ -44,21 +44,21 @@ pub fn serve<F: Fingerprint, L: Lists, R: Rig, S: Source>(
     print: F,
 ) -> u8
     // what a crash leaves, within the run and behind it
-    ensures crash { R.tells → S.tells → (start : State) → (stands : Stands (F.printed print) (shown FlashDevice (R.world rig.old)) (shown DiskDevice (R.world rig.old)) start) → IsYoung stands
-        → Elapses (R.clock rig.old) (R.clock rig.new) (Promise (F.printed print) (sizes_of stands.geo) start (commands_of (dialect_of (sizes_of stands.geo)) (S.rest source.old)) (R.world rig.old)) }
-    ensures left { R.tells → S.tells → (start : State) → (stands : Stands (F.printed print) (shown FlashDevice (R.world rig.old)) (shown DiskDevice (R.world rig.old)) start) → IsYoung stands
-        → (o : Outcome) → MayLeave (R.world rig.new) o → Promise (F.printed print) (sizes_of stands.geo) start (commands_of (dialect_of (sizes_of stands.geo)) (S.rest source.old)) (R.world rig.old) o }
+    ensures crash { R.tells → S.tells → (from : Begins (F.printed print) (R.world rig.old))
+        → Elapses (R.clock rig.old) (R.clock rig.new) (Promises from (S.rest source.old)) }
+    ensures left { R.tells → S.tells → (from : Begins (F.printed print) (R.world rig.old))
+        → (o : Outcome) → MayLeave (R.world rig.new) o → Promises from (S.rest source.old) o }
 
     // what it says and takes
-    ensures serves { R.tells → S.tells → (start : State) → (stands : Stands (F.printed print) (shown FlashDevice (R.world rig.old)) (shown DiskDevice (R.world rig.old)) start) → IsYoung stands
-        → Serves (F.printed print) (sizes_of stands.geo) start (S.rest source.old) result (R.world rig.old) (R.world rig.new) (R.counts rig.old) (R.counts rig.new) }
-    ensures taken { R.tells → S.tells → (start : State) → (stands : Stands (F.printed print) (shown FlashDevice (R.world rig.old)) (shown DiskDevice (R.world rig.old)) start)
-        → result ≤ 1 → IsTakenTo (dialect_of (sizes_of stands.geo)) (S.rest source.old) (S.rest source.new) }
+    ensures serves { R.tells → S.tells → (from : Begins (F.printed print) (R.world rig.old))
+        → Serves (F.printed print) (sizes_from from) from.start (S.rest source.old) result (R.world rig.old) (R.world rig.new) (R.counts rig.old) (R.counts rig.new) }
+    ensures taken { R.tells → S.tells → (from : Begins (F.printed print) (R.world rig.old))
+        → result ≤ 1 → IsTakenTo (dialect_of (sizes_from from)) (S.rest source.old) (S.rest source.new) }
     ensures untaken { (result ≡ 3) ⊎ (result ≡ 4) → (source.new ≡ source.old) × Makes (up_to 4 1 0) (up_to 0 1 0) (R.counts rig.old) (R.counts rig.new) }
 
     // how it ends
-    ensures quiet { R.tells → S.tells → (start : State) → (stands : Stands (F.printed print) (shown FlashDevice (R.world rig.old)) (shown DiskDevice (R.world rig.old)) start) → IsYoung stands
-        → IsQuiet (R.counts rig.old) (R.counts rig.new) → IsStill (S.failures source.old) (S.failures source.new) → IsBounded (sizes_of stands.geo) (S.rest source.old) → (result ≡ 0) ⊎ (result ≡ 4) }
+    ensures quiet { R.tells → S.tells → (from : Begins (F.printed print) (R.world rig.old))
+        → IsQuiet (R.counts rig.old) (R.counts rig.new) → IsStill (S.failures source.old) (S.failures source.new) → IsBounded (sizes_from from) (S.rest source.old) → (result ≡ 0) ⊎ (result ≡ 4) }
     ensures caused { IsCaused (source.new ≡ source.old) ((sizes : Sizes) × (S.tells → IsBounded sizes (S.rest source.old) → ⊥)) result (R.counts rig.old) (R.counts rig.new) (S.failures source.old) (S.failures source.new) }
     ensures refused { R.tells → result ≡ 3 → Refuses (R.device_size rig.old) (shown FlashDevice (R.world rig.old)) (R.counts rig.old) (R.counts rig.new) (R.world rig.old) (R.world rig.new) }
     ensures unopened { R.tells → (fault : OpenFault) → IsFirstFault (R.device_size rig.old) (shown FlashDevice (R.world rig.old)) fault → IsUnserved result }

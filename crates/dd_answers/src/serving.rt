@@ -93,12 +93,5 @@ fn serve_script<F: Fingerprint, L: Lists, R: Rig, S: Source>(
     let mut reader = Reader::new(alloc)?;
     let mut block = vec![in alloc; 0; size]?;
     let mut text = vec![in alloc; 0; REPLY_ROOM]?;
-    Ok(serve_lines(
-        &mut cache,
-        &mut reader,
-        source,
-        rig,
-        &mut block,
-        &mut text,
-    ))
+    Ok(serve_lines(&mut cache, &mut reader, source, rig, &mut block, &mut text))
 }

@@ -58,9 +58,12 @@ returns-clause-quiet g c = λ t u start kept quiet still bounded.
 
 pub returns-clause-caused : goal.returns-clause-caused
 returns-clause-caused g c =
-    let long : Type 0 = g.S.Source.tells → IsBounded (sizes_of c.args.store.store.journal.geo) (g.S.Source.rest c.args.source.now) → ⊥ in
-    (c.serve_store-ending.result, c.finish.ensures.status, caused_later ⊥ long ⊥ long (λ never. absurd never) (λ h. h) c.serve_store-ending.result (g.R.Rig.counts c.args.rig.now) (g.R.Rig.counts c.serve_store-ending.new.rig)
-    (g.R.Rig.counts c.finish.new.rig) (g.S.Source.failures c.args.source.now) (g.S.Source.failures c.serve_store-ending.new.source) c.finish.ensures.frame.0 c.serve_store-ending.ensures.caused)
+    let long : Type 0 = g.S.Source.tells → IsBounded (sizes_of c.args.store.store.journal.geo) (g.S.Source.rest c.args.source.now) → ⊥ in (
+      c.serve_store-ending.result,
+      c.finish.ensures.status,
+      caused_later ⊥ long ⊥ long (λ never. absurd never) (λ h. h) c.serve_store-ending.result (g.R.Rig.counts c.args.rig.now) (g.R.Rig.counts c.serve_store-ending.new.rig)
+          (g.R.Rig.counts c.finish.new.rig) (g.S.Source.failures c.args.source.now) (g.S.Source.failures c.serve_store-ending.new.source) c.finish.ensures.frame.0 c.serve_store-ending.ensures.caused,
+    )
 
 pub returns-clause-taken : goal.returns-clause-taken
 returns-clause-taken g c = λ u few.
