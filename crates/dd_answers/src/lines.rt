@@ -4,7 +4,8 @@ ghost use Rattle.dd_rig.specs.Clock.{Elapses};
 ghost use Rattle.dd_rig.specs.Counts.{Frame};
 ghost use Rattle.dd_model.specs.State.{State};
 ghost use Rattle.dd_script.specs.Command.{read as a_read, write as a_write, flush as a_flush, clean as a_clean, tick as a_tick, quit as a_quit};
-ghost use Rattle.dd_script.specs.Line.{told, IsBelow};
+ghost use Rattle.dd_script.specs.Line.{told, IsIn};
+ghost use Rattle.dd_script.specs.Output.{dialect_of};
 ghost use Rattle.dd_script.specs.Text.{HasNoEnd, reply_room, ended, bad_text};
 ghost use Rattle.dd_store.specs.Keeping.{Kept};
 ghost use Rattle.dd_store.specs.Meaning.{sizes_of};
@@ -264,7 +265,7 @@ pub fn write_answer<F: Fingerprint, L: Lists, R: Rig>(
     text: &mut [u8],
 ) -> Result<Option<Written>, Halt>
     requires ready { MayAnswer store.old.store 1 (R.device_size rig.old) }
-    requires below { IsBelow store.old.store.journal.geo.blocks line }
+    requires within { IsIn (dialect_of (sizes_of store.old.store.journal.geo)) line }
     requires block { length block.old ≡ store.old.store.journal.geo.block }
     requires text { length text.old ≡ reply_room }
     ensures crash { R.tells → (c s : State) → Kept (F.printed store.old.print) store.old.store (R.world rig.old) c s

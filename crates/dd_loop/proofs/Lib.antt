@@ -6,3 +6,4 @@ pub mod Answering
 pub mod Reading
 pub mod Taken
 pub mod FaultLines
+pub mod Keeping

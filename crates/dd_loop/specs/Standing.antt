@@ -24,6 +24,10 @@ module _ (StandFor : (flash disk : List ℕ) → State → Type 0) where
   abbrev pub WithinCall : (committed held : State) → World → Outcome → Type 0
   WithinCall committed held old o = StandForEither committed held o.flash o.disk × (o.out ≡ old.said)
 
+  -- the devices stand for some state, whatever the script says
+  abbrev pub StandForSome : Outcome → Type 0
+  StandForSome o = (s : State) × StandFor o.flash o.disk s
+
   module _ (print : List ℕ → Fp) (sizes : Sizes) (start : State) (commands : List Command) where
     -- Where these whole lines were said, the devices stand for the state after one prefix of the references that the lines answer, no
     -- shorter than what they acknowledge.

@@ -6,7 +6,7 @@ ghost use Rattle.dd_rig.specs.Clock.{Elapses};
 ghost use Rattle.dd_rig.specs.Counts.{Frame};
 ghost use Rattle.dd_rig.specs.World.{World};
 ghost use Rattle.dd_model.specs.State.{State};
-ghost use Rattle.dd_script.specs.Line.{told, IsBelow};
+ghost use Rattle.dd_script.specs.Line.{told, IsIn};
 ghost use Rattle.dd_script.specs.Text.{reply_room};
 ghost use Rattle.dd_loop.specs.Answering.{Pays, WritesAnswer};
 ghost use Rattle.dd_loop.specs.Halting.{HaltsByDevice};
@@ -75,7 +75,7 @@ pub trait Cache<R: Rig> {
         block: &mut [u8],
         text: &mut [u8],
     ) -> Result<Option<Written>, Halt>
-        requires below { IsBelow (terms self.old).sizes.blocks line }
+        requires within { IsIn (dialect_in (terms self.old)) line }
         requires block { length block.old ≡ (terms self.old).sizes.block }
         requires text { length text.old ≡ reply_room }
         requires ready { ready self.old 1 (R.device_size rig.old) }

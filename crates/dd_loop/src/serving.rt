@@ -5,7 +5,7 @@ ghost use Rattle.dd_rig.specs.Counts.{Frame, NeverFalls, Rose};
 ghost use Rattle.dd_rig.specs.World as world;
 ghost use Rattle.dd_rig.specs.World.{World, SaysSome, WithinEmit};
 ghost use Rattle.dd_model.specs.State.{State};
-ghost use Rattle.dd_script.specs.Line.{told, IsBelow};
+ghost use Rattle.dd_script.specs.Line.{told, IsIn};
 ghost use Rattle.dd_script.specs.Reading.{left, fuel, quits, IsTakenTo};
 ghost use Rattle.dd_script.specs.Script.{commands_of, EndsWithin};
 ghost use Rattle.dd_script.specs.Text.{reply_room};
@@ -13,7 +13,7 @@ ghost use Rattle.dd_loop.specs.declared.halt.Halt.TheVariants.{Output};
 ghost use Rattle.dd_loop.specs.Answering.{Pays, AnswersLine, WithinLine, CutsLine};
 ghost use Rattle.dd_loop.specs.Halting.{Halts, stop_of};
 ghost use Rattle.dd_loop.specs.Serving.{ServedAll, ServedUpTo};
-ghost use Rattle.dd_loop.specs.Standing.{StandForPrefix};
+ghost use Rattle.dd_loop.specs.Standing.{StandForPrefix, StandForSome};
 ghost use Rattle.dd_loop.specs.Terms.{dialect_in};
 
 use crate::cache::Cache;
@@ -38,6 +38,8 @@ pub fn serve_lines<R: Rig, C: Cache<R>, S: Source>(
     ensures crash { R.tells → S.tells → (first : World) (start : State) → C.kept cache.old first (R.world rig.old) start start
         → Elapses (R.clock rig.old) (R.clock rig.new) (StandForPrefix (C.stands (C.terms cache.old) first) (C.terms cache.old).print (C.terms cache.old).sizes start
         (commands_of (dialect_in (C.terms cache.old)) (left reader.old (S.rest source.old))) (R.world rig.old).said) }
+    ensures moments { R.tells → (first : World) (c s : State) → C.kept cache.old first (R.world rig.old) c s
+        → Elapses (R.clock rig.old) (R.clock rig.new) (StandForSome (C.stands (C.terms cache.old) first)) }
     ensures all { R.tells → S.tells → (first : World) (start : State) → C.kept cache.old first (R.world rig.old) start start
         → IfOk result (λ faulted. ServedAll (C.terms cache.old).print (C.terms cache.old).sizes (C.stands (C.terms cache.old) first) start
         (commands_of (dialect_in (C.terms cache.old)) (left reader.old (S.rest source.old))) (Pays (C.costs cache.old cache.new) (R.counts rig.old) (R.counts rig.new)) faulted (R.world rig.old).said (R.world rig.new)) }
@@ -93,7 +95,7 @@ fn answer_line<R: Rig, C: Cache<R>>(
     block: &mut [u8],
     text: &mut [u8],
 ) -> Result<bool, Halt>
-    requires below { IsBelow (C.terms cache.old).sizes.blocks line }
+    requires within { IsIn (dialect_in (C.terms cache.old)) line }
     requires block { length block.old ≡ (C.terms cache.old).sizes.block }
     requires text { length text.old ≡ reply_room }
     requires ready { C.ready cache.old 1 (R.device_size rig.old) }

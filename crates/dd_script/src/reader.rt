@@ -1,6 +1,6 @@
 // A script, read line by line.
 ghost use Rattle.std.specs.Prelude.{◌≡◌, ◌≤◌, [], length, IfOk, OnOk, IfErr, false};
-ghost use Rattle.dd_script.specs.Line.{line_room, told, IsBelow};
+ghost use Rattle.dd_script.specs.Line.{line_room, told, IsIn};
 ghost use Rattle.dd_script.specs.Reading.{left, fuel, piece_size, fronted, BurnsUnlessQuit, Bounds, Passes, Fails};
 ghost use Rattle.dd_script.specs.Script.{commands_of, EndsWithin};
 
@@ -55,7 +55,7 @@ impl Reader {
         ensures bounds { S.tells → IfOk result (λ line. Bounds line (EndsWithin (fuel self.old) dialect (left self.old (S.rest source.old))) (EndsWithin (fuel self.new) dialect (left self.new (S.rest source.new)))) }
         ensures passes { S.tells → IfOk result (λ line. Passes dialect line (left self.old (S.rest source.old)) (left self.new (S.rest source.new))) }
         ensures piece { OnOk result (length self.new.bytes ≤ piece_size) }
-        ensures below { IfOk result (λ line. IsBelow dialect.blocks line) }
+        ensures within { IfOk result (λ line. IsIn dialect line) }
         ensures fuel { IfOk result (λ line. BurnsUnlessQuit line (fuel self.old) (fuel self.new)) }
         ensures later { S.failures source.old ≤ S.failures source.new }
         ensures fault { IfErr result (λ fault. Fails (S.tells → EndsWithin (fuel self.old) dialect (left self.old (S.rest source.old)) → ⊥) fault (S.failures source.old) (S.failures source.new)) }
@@ -78,7 +78,7 @@ fn next_of<S: Source>(
     ensures bounds { S.tells → IfOk result (λ line. Bounds line (EndsWithin (fuel pieces.old) dialect (left pieces.old (S.rest source.old))) (EndsWithin (fuel pieces.new) dialect (left pieces.new (S.rest source.new)))) }
     ensures passes { S.tells → IfOk result (λ line. Passes dialect line (left pieces.old (S.rest source.old)) (left pieces.new (S.rest source.new))) }
     ensures piece { OnOk result (length pieces.new.bytes ≤ piece_size) }
-    ensures below { IfOk result (λ line. IsBelow dialect.blocks line) }
+    ensures within { IfOk result (λ line. IsIn dialect line) }
     ensures fuel { IfOk result (λ line. BurnsUnlessQuit line (fuel pieces.old) (fuel pieces.new)) }
     ensures later { S.failures source.old ≤ S.failures source.new }
     ensures fault { IfErr result (λ fault. Fails (S.tells → EndsWithin (fuel pieces.old) dialect (left pieces.old (S.rest source.old)) → ⊥) fault (S.failures source.old) (S.failures source.new)) }

@@ -7,8 +7,8 @@ use Rattle.dd_rig.specs.declared.tallies.Counts.{Counts}
 use Rattle.dd_rig.specs.Counts.{NeverFalls, Makes, up_to, nothing, count_read}
 use Rattle.dd_model.specs.State.{Sizes}
 use Rattle.dd_serve.specs.Calls.{AsksForLines, looked}
-use Rattle.dd_serve.proofs.Costs.{asks_early}
-use Rattle.dd_serve.specs.Saying.{IsIdle}
+use Rattle.dd_serve.specs.Laws.{asks_early}
+use Rattle.dd_loop.specs.Saying.{IsIdle}
 
 -- one read of the flash, and no call of a device behind it
 pub one_look : {T E : Type 0} (r : Result T E) (a b d : Counts) → b ≡ count_read dev.Flash r a → IsIdle b d → Makes (up_to 1 0 0) nothing a d

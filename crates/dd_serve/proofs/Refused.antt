@@ -18,8 +18,8 @@ use Rattle.dd_script.specs.declared.reply.Refusal.{Refusal}
 use Rattle.dd_script.specs.declared.reply.Refusal.TheVariants as refusal
 use Rattle.dd_script.specs.declared.reply.Stop.TheVariants as stop
 use Rattle.dd_script.specs.Text.{ended, stop_text}
-use Rattle.dd_serve.specs.Saying.{SaysAlone}
-use Rattle.dd_serve.specs.Ending.{SaysLast, ending_line, status_of}
+use Rattle.dd_loop.specs.Saying.{SaysAlone}
+use Rattle.dd_loop.specs.Ending.{SaysLast, ending_line, status_of}
 use Rattle.dd_serve.specs.Formats.{ending_of, FormatLeaves, Formats}
 use Rattle.dd_serve.specs.Refusing.{Refuses, StopsAtDevice}
 use Rattle.dd_serve.specs.declared.words.Asked.TheVariants.{Format}

@@ -1,32 +1,36 @@
--- Answers, line by line.
-use Rattle.std.proofs.Common.{◌≡◌, ℕ, Bool, true, false, List, ◌++◌, take, sym, ◌∙◌, ap, subst, arith, Some, None}
-use Rattle.std.specs.Prelude.{Option, option_map}
+-- The line that answers a read, and the state behind it.
+use Rattle.std.proofs.Common.{◌≡◌, inr, ℕ, ◌+◌, ◌<◌, ◌≤◌, ◌^◌, Bool, true, false, List, [], ◌∷◌, refl, sym, ◌∙◌, ap, subst, arith, Some, None, Ok, Err, IfOk}
+use Rattle.std.specs.Prelude.{Option, Result, option_map, IfSome, IfErr, OnOk}
 use Rattle.dd_block.specs.declared.print.Fp.{Fp}
 use Rattle.dd_rig.specs.declared.device.Dev.{Dev}
-use Rattle.dd_rig.specs.declared.device.Dev.TheVariants as dev
-use Rattle.dd_rig.specs.declared.tallies.Calls.{Calls}
 use Rattle.dd_rig.specs.declared.tallies.Counts.{Counts}
 use Rattle.dd_rig.specs.Counts.{Rose, NeverFalls, calls_of}
-use Rattle.dd_rig.specs.World.{World, say}
+use Rattle.dd_rig.specs.World.{World}
+use Rattle.dd_record.specs.declared.row.BRow.{BRow}
 use Rattle.dd_model.specs.declared.kind.Kind.{Kind}
 use Rattle.dd_model.specs.declared.done.Done.{Done}
-use Rattle.dd_model.specs.Reference.{Tells}
+use Rattle.dd_model.specs.State.{Sizes, State, content}
+use Rattle.dd_model.specs.Reference.{Tells, read_answer}
 use Rattle.dd_model.specs.Reference as step
-use Rattle.dd_record.specs.declared.row.BRow.{BRow}
-use Rattle.dd_script.specs.Output.{read_line}
-use Rattle.dd_model.specs.State.{Sizes, State}
-use Rattle.dd_script.specs.Command.{Command}
-use Rattle.dd_script.specs.Text.{read_text}
-use Rattle.dd_serve.specs.declared.answering.Written.{Written}
-use Rattle.dd_serve.specs.Calls.{AsksForLine}
-use Rattle.dd_serve.specs.Saying.{IsIdle}
-use Rattle.dd_serve.specs.Scratch.{ScratchView, IsSound, scratch_state}
-use Rattle.dd_serve.specs.declared.halt.Halt.TheVariants.{Output}
-use Rattle.dd_serve.specs.Answering.{Replied, WritesAnswer, AnswersLine, CutsLine}
-
-rose_later : (device : Dev) (a b c : Counts) → NeverFalls b c → Rose (calls_of device a).failed_reads (calls_of device b).failed_reads → Rose (calls_of device a).failed_reads (calls_of device c).failed_reads
-rose_later dev.Flash a b c h r = omega (arith, h.flash_reads, r)
-rose_later dev.Disk a b c h r = omega (arith, h.disk_reads, r)
+use Rattle.dd_script.specs.Answers.{acknowledged_by, MayFault}
+use Rattle.dd_script.specs.Command.{Command, read, quit, bad, after}
+use Rattle.dd_script.specs.Line.{told}
+use Rattle.dd_script.specs.Output.{reply_line, read_line}
+use Rattle.dd_script.specs.Text.{HasNoEnd, read_text, bye_text, bad_text, fault_text}
+use Rattle.dd_script.specs.declared.line.BadKind.{BadKind}
+use Rattle.dd_script.specs.declared.line.Line.{Line}
+use Rattle.dd_script.proofs.LineWords.{read_acks, fault_acks, bad_acks, no_acks, fault_no_end, bye_acks, after_reply, after_fault}
+use Rattle.dd_loop.specs.declared.cache.Written.{Written}
+use Rattle.dd_loop.specs.declared.halt.Halt.{Halt}
+use Rattle.dd_loop.specs.Answering.{CountsFaults, HasFault, Pays, GoesOnWith, WritesLine, WritesAnswer}
+use Rattle.dd_loop.specs.Standing.{AllStandForEither}
+use Rattle.dd_loop.proofs.FaultLines.{reply_has_none, fault_has, fault_counts, reply_counts}
+use Rattle.dd_serve.specs.Answering.{MayAnswer, HoldsState, StaysBy, CostsLines}
+use Rattle.dd_serve.specs.Calls.{AsksFor, AsksForLine, AsksForLines, slots_for, looks_for, writes_for}
+use Rattle.dd_serve.specs.Laws.{keeps_images}
+use Rattle.dd_serve.specs.Scratch.{ScratchView, Fits, IsSound, Scratched, scratch_sizes, scratch_state}
+use Rattle.dd_serve.proofs.Costs.{line_asks, begun_asks, asks_read, asks_fault, asks_bye, asks_bad}
+use Rattle.std.proofs.Common.{inl}
 
 -- what the code answers is the line of the definition
 pub read_line_is : (print : List ℕ → Fp) (answer : step.Answer) (done : Done) (block content : List ℕ) → Tells print done answer → block ≡ content
@@ -37,40 +41,90 @@ read_line_is print answer done block content told e =
     ∙ ap (λ (o : Option ℕ). read_text answer.kind content o (option_map (λ (row : BRow). row.fp) done.cut.drop)) told.out
     ∙ ap (λ (d : Option Fp). read_text answer.kind content answer.out d) told.drop
 
--- what is said asks no device
-asks_idle : (sizes : Sizes) (line : List ℕ) (a b c : Counts) → IsIdle b c → AsksForLine sizes line a b → AsksForLine sizes line a c
-asks_idle sizes line a b c h k = (
-  omega (arith, k.0, ap (λ (d : Calls). d.reads) h.0),
-  (
-    (omega (arith, k.1.0.0, ap (λ (d : Calls). d.reads) h.0), omega (arith, k.1.0.1, ap (λ (d : Calls). d.writes) h.0), omega (arith, k.1.0.2, ap (λ (d : Calls). d.written) h.0)),
-    (omega (arith, k.1.1.0, ap (λ (d : Calls). d.reads) h.1), omega (arith, k.1.1.1, ap (λ (d : Calls). d.writes) h.1), omega (arith, k.1.1.2, ap (λ (d : Calls). d.written) h.1)),
-  ),
+-- a read that failed leaves rows and devices
+pub sound_left : (print : List ℕ → Fp) (old new : ScratchView) (middle world : World) → new ≡ old → world ≡ middle → IsSound print old middle → IsSound print new world
+sound_left print old new middle world same e h = subst (λ (k : ScratchView). IsSound print k world) (sym same) (subst (λ (w : World). IsSound print old w) (sym e) h)
+
+pub state_left : (old new : ScratchView) (middle world : World) → new ≡ old → world ≡ middle → scratch_state new world ≡ scratch_state old middle
+state_left old new middle world same e = ap (λ (k : ScratchView). scratch_state k world) same ∙ ap (scratch_state old) e
+
+-- A line answers a command, behind which the rows and the devices stand for the state after it.
+module _ (print : List ℕ → Fp) (old new : ScratchView) (first world : World) (before end : Counts) (falls : NeverFalls before end) (since : Scratched first world) (same : scratch_sizes new ≡ scratch_sizes old) (sound : IsSound print new world) (c s : State) where
+  replies : (command : Command) (line : List ℕ) → HasNoEnd line → line ≡ reply_line print (scratch_sizes old) s command → scratch_state new world ≡ after (scratch_sizes old) s command
+      → AsksForLine (scratch_sizes old) line before end → IfSome (acknowledged_by line) (λ n. n ≤ s.count)
+      → GoesOnWith print (scratch_sizes old) (λ committed held. HoldsState print new first world held) (λ lines. Pays (CostsLines old new) before end lines 0) c s command false line
+  replies command line no_end is state asks sure =
+      let none : HasFault false (line ∷ []) = reply_has_none print (scratch_sizes old) s command line is in
+      record {
+        no_end = no_end;
+        one = is;
+        fault = none;
+        committed = s;
+        either = inr refl;
+        sure = sure;
+        kept = record { sound = sound; is = after_reply print (scratch_sizes old) s command line is ∙ sym state; since = since };
+        paid = (record { same = same; asks = line_asks (scratch_sizes old) line before end asks }, reply_counts line before end none falls);
+      }
+
+  pub replies_read : (address : ℕ) (block : List ℕ) (done : Done) → HasNoEnd (read_text done.kind block done.cut.out (option_map (λ (row : BRow). row.fp) done.cut.drop))
+      → block ≡ content s.array address → Tells print done (read_answer (scratch_sizes old) s address) → scratch_state new world ≡ after (scratch_sizes old) s (read address)
+      → AsksFor (scratch_sizes old).block (scratch_sizes old).bcap (slots_for done.kind block) (looks_for done.kind) (writes_for done.kind) before end
+      → GoesOnWith print (scratch_sizes old) (λ committed held. HoldsState print new first world held) (λ lines. Pays (CostsLines old new) before end lines 0) c s (read address) false
+      (read_text done.kind block done.cut.out (option_map (λ (row : BRow). row.fp) done.cut.drop))
+  replies_read address block done no_end block_is told state asks =
+      let fp : Option Fp = option_map (λ (row : BRow). row.fp) done.cut.drop in
+      let line : List ℕ = read_text done.kind block done.cut.out fp in
+      replies (read address) line no_end (read_line_is print (read_answer (scratch_sizes old) s address) done block (content s.array address) told block_is) state
+      (asks_read (scratch_sizes old) done.kind block done.cut.out fp before end asks) (no_acks line s.count (read_acks done.kind block done.cut.out fp))
+
+  -- a fault line, behind which the state is what it was
+  pub faults : (command : Command) (device : Dev) → MayFault command (fault_text device) → scratch_state new world ≡ s → Rose (calls_of device before).failed_reads (calls_of device end).failed_reads
+      → AsksFor (scratch_sizes old).block (scratch_sizes old).bcap 0 1 0 before end
+      → GoesOnWith print (scratch_sizes old) (λ committed held. HoldsState print new first world held) (λ lines. Pays (CostsLines old new) before end lines 0) c s command true (fault_text device)
+  faults command device may state rose asks = record {
+    no_end = fault_no_end device;
+    one = may;
+    fault = fault_has device;
+    committed = s;
+    either = inr refl;
+    sure = no_acks (fault_text device) s.count (fault_acks device);
+    kept = record { sound = sound; is = after_fault print (scratch_sizes old) s command device ∙ sym state; since = since };
+    paid = (record { same = same; asks = line_asks (scratch_sizes old) (fault_text device) before end (asks_fault (scratch_sizes old) device before end asks) }, fault_counts device before end falls rose);
+  }
+
+-- A line that asks no device.
+module _ (print : List ℕ → Fp) (scratch : ScratchView) (first world : World) (counts : Counts) (falls : NeverFalls counts counts) (c s : State) (h : HoldsState print scratch first world s) where
+  pub replies_bye : (n : ℕ) → n < 2 ^ 64 → n ≡ scratch.count → HasNoEnd (bye_text n)
+      → GoesOnWith print (scratch_sizes scratch) (λ committed held. HoldsState print scratch first world held) (λ lines. Pays (CostsLines scratch scratch) counts counts lines 0) c s quit false (bye_text n)
+  replies_bye n fits is no_end =
+      let count : n ≡ s.count = is ∙ ap (λ (t : State). t.count) (sym h.is) in
+      replies print scratch scratch first world counts counts falls h.since refl h.sound c s quit (bye_text n) no_end (ap bye_text count) (sym h.is) (asks_bye (scratch_sizes scratch) n counts) (bye_acks n s.count fits (omega (arith, count)))
+
+  pub replies_bad : (kind : BadKind) → HasNoEnd (bad_text kind)
+      → GoesOnWith print (scratch_sizes scratch) (λ committed held. HoldsState print scratch first world held) (λ lines. Pays (CostsLines scratch scratch) counts counts lines 0) c s (bad kind) false (bad_text kind)
+  replies_bad kind no_end =
+      replies print scratch scratch first world counts counts falls h.since refl h.sound c s (bad kind) (bad_text kind) no_end refl (sym h.is) (asks_bad (scratch_sizes scratch) kind counts) (no_acks (bad_text kind) s.count (bad_acks kind))
+
+-- the line that answers a line that tells this command
+pub told_by : (print : List ℕ → Fp) (sizes : Sizes) (KeptNow : (committed held : State) → Type 0) (PaidNow : List (List ℕ) → Type 0) (c s : State) (block : List ℕ) (line known : Line) (command : Command) (written : Written) (text : List ℕ)
+    → line ≡ known → told block known ≡ Some command → WritesLine print sizes KeptNow PaidNow c s command written text → WritesAnswer print sizes KeptNow PaidNow c s (told block line) (Some written) text
+told_by print sizes KeptNow PaidNow c s block line known command written text is says w =
+    subst (λ (l : Line). WritesAnswer print sizes KeptNow PaidNow c s (told block l) (Some written) text) (sym is)
+    (subst (λ (o : Option Command). WritesAnswer print sizes KeptNow PaidNow c s o (Some written) text) (sym says) w)
+
+-- and none to a line that tells none
+pub told_none : (print : List ℕ → Fp) (sizes : Sizes) (KeptNow : (committed held : State) → Type 0) (PaidNow : List (List ℕ) → Type 0) (c s : State) (block : List ℕ) (line known : Line) (text : List ℕ)
+    → line ≡ known → told block known ≡ None → KeptNow c s → PaidNow [] → WritesAnswer print sizes KeptNow PaidNow c s (told block line) None text
+told_none print sizes KeptNow PaidNow c s block line known text is says kept paid =
+    subst (λ (l : Line). WritesAnswer print sizes KeptNow PaidNow c s (told block l) None text) (sym is)
+    (subst (λ (o : Option Command). WritesAnswer print sizes KeptNow PaidNow c s o None text) (sym says) (kept, paid))
+
+-- where a write failed a crash leaves what a replay may leave, and one command was begun
+pub halts_all : (result : Result (Option Written) Halt) (old new : ScratchView) (first world : World) (before end : Counts) (c s : State) → Scratched first world → scratch_sizes new ≡ scratch_sizes old
+    → IfErr result (λ halt. AsksFor (scratch_sizes old).block (scratch_sizes old).bcap 0 1 1 before end)
+    → IfErr result (λ halt. AllStandForEither (StaysBy first) c s world × CostsLines old new [] 1 before end)
+halts_all (Ok written) old new first world before end c s since same asks = tt
+halts_all (Err halt) old new first world before end c s since same asks = (
+  λ flash disk flash_image disk_image. inl (keeps_images first world since flash disk flash_image disk_image),
+  record { same = same; asks = begun_asks (scratch_sizes old) before end asks },
 )
-
--- what is said changes neither device
-pub sound_said : (print : List ℕ → Fp) (scratch : ScratchView) (piece : List ℕ) (old new : World) → new ≡ say piece old → IsSound print scratch old → IsSound print scratch new
-sound_said print scratch piece old new e h = let P : World → Type 0 = λ w. IsSound print scratch w in subst P (sym e) h
-
-pub state_said : (scratch : ScratchView) (piece : List ℕ) (old new : World) → new ≡ say piece old → scratch_state scratch new ≡ scratch_state scratch old
-state_said scratch piece old new e = ap (scratch_state scratch) e
-
-module _ (print : List ℕ → Fp) (sizes : Sizes) where
-  replied_later : (faulted : Bool) (command : Command) (line : List ℕ) (old new : State) (a b c : Counts) → NeverFalls b c → IsIdle b c → Replied print sizes faulted command line old new a b → Replied print sizes faulted command line old new a c
-  replied_later false command line old new a b c h idle r = (r.0, r.1, asks_idle sizes line a b c idle r.2)
-  replied_later true command line old new a b c h idle (device, is, may, same, rose, asks) = (device, is, may, same, rose_later device a b c h rose, asks_idle sizes line a b c idle asks)
-
-  -- the line that was written was said
-  pub answers_written : (o : Option Command) (written : Written) (text : List ℕ) (old new later : State) (said_before said_after : List ℕ) (a b c : Counts)
-      → WritesAnswer print sizes o (Some written) text old new a b → later ≡ new → said_after ≡ said_before ++ take written.size text → NeverFalls b c → IsIdle b c
-      → AnswersLine print sizes o written.faulted old later said_before said_after a c
-  answers_written None written text old new later said_before said_after a b c w same said h idle = absurd w
-  answers_written (Some command) written text old new later said_before said_after a b c w same said h idle =
-      (w.0, w.1, said ∙ ap (λ (l : List ℕ). said_before ++ l) w.2, subst (λ (s : State). Replied print sizes written.faulted command w.0 old s a c) (sym same) (replied_later written.faulted command w.0 old new a b c h idle w.3))
-
-  -- a part of it was
-  pub cuts_written : (o : Option Command) (written : Written) (text : List ℕ) (old new : State) (said_before said_after : List ℕ) (n : ℕ) (a b c : Counts)
-      → WritesAnswer print sizes o (Some written) text old new a b → said_after ≡ said_before ++ take n (take written.size text) → NeverFalls b c → IsIdle b c
-      → CutsLine print sizes Output o old said_before said_after a c
-  cuts_written None written text old new said_before said_after n a b c w said h idle = absurd w
-  cuts_written (Some command) written text old new said_before said_after n a b c w said h idle =
-      (w.0, n, w.1, said ∙ ap (λ (l : List ℕ). said_before ++ take n l) w.2, written.faulted, new, replied_later written.faulted command w.0 old new a b c h idle w.3)

@@ -17,7 +17,7 @@ use Rattle.dd_serve.specs.Calls.{looked}
 use Rattle.dd_serve.specs.Formats.{IsFormatStatus}
 use Rattle.dd_serve.specs.Refusing.{Refuses, StopsAtDevice, refusal_for}
 use Rattle.dd_serve.specs.Run.{RefusesWords, IsStatus, IsCaused, IsRefused, Shows, EndsWell}
-use Rattle.dd_serve.specs.Saying.{IsIdle, SaysAlone}
+use Rattle.dd_loop.specs.Saying.{IsIdle, SaysAlone}
 use Rattle.dd_serve.specs.Words.{AsksFor}
 use Rattle.dd_serve.proofs.Quiet.{quiet_status, quiet_format, replay_failed}
 

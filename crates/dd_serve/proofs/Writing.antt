@@ -5,7 +5,7 @@ use Rattle.std.proofs.lemmas.Bool.{le-ltb}
 use Rattle.dd_rig.specs.Device.{overwrite, add_range}
 use Rattle.dd_rig.specs.World.{World, ShowsSome, on_device}
 use Rattle.dd_serve.specs.Scratch.{OnlyFlash, front_ranges}
-use Rattle.dd_serve.specs.Saying.{front_of}
+use Rattle.dd_loop.specs.Saying.{front_of}
 
 front_kept : (n at : ℕ) (bytes old : List ℕ) → n ≤ at → take n (overwrite at bytes old) ≡ take n old
 front_kept zero at bytes old h = refl

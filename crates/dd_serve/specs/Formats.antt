@@ -13,9 +13,9 @@ use Rattle.dd_script.specs.declared.reply.Reply.TheVariants as reply
 use Rattle.dd_script.specs.declared.reply.Refusal.TheVariants as refusal
 use Rattle.dd_script.specs.declared.reply.Stop.TheVariants as stop
 use Rattle.dd_script.specs.Text.{ended, reply_text}
-use Rattle.dd_serve.specs.declared.ending.Ending.{Ending}
-use Rattle.dd_serve.specs.declared.ending.Ending.TheVariants.{Refused, Stopped}
-use Rattle.dd_serve.specs.Saying.{SaysAlone}
+use Rattle.dd_loop.specs.declared.ending.Ending.{Ending}
+use Rattle.dd_loop.specs.declared.ending.Ending.TheVariants.{Refused, Stopped}
+use Rattle.dd_loop.specs.Saying.{SaysAlone}
 
 -- how a format ends that failed
 abbrev pub ending_of : FormatFault → Ending

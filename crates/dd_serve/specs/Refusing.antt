@@ -13,7 +13,7 @@ use Rattle.dd_script.specs.declared.reply.Refusal.TheVariants as refusal
 use Rattle.dd_script.specs.Text.{stop_text, refusal_text}
 use Rattle.dd_serve.specs.declared.words.Asked.{Asked}
 use Rattle.dd_serve.specs.declared.words.Asked.TheVariants.{Replay, Format}
-use Rattle.dd_serve.specs.Saying.{SaysAlone}
+use Rattle.dd_loop.specs.Saying.{SaysAlone}
 
 -- what the flash has to hold for what is asked
 abbrev pub flash_needs : Asked → ℕ

@@ -1,5 +1,5 @@
 -- A replay: its state at the start, its output, and what each status says.
-use Rattle.std.specs.Prelude.{◌≡◌, ◌≢◌, ◌≤◌, ◌<◌, ◌+◌, ◌/◌, ℕ, List, min, length, take, drop, ◌⊎◌, [], ◌∷◌, ◌++◌}
+use Rattle.std.specs.Prelude.{◌≡◌, ◌≢◌, ◌≤◌, ◌<◌, ◌+◌, ◌/◌, ℕ, Bool, List, min, length, take, drop, ◌⊎◌, [], ◌∷◌, ◌++◌}
 use Rattle.std.specs.List.{AllByRecursion, flat_map}
 use Rattle.dd_block.specs.declared.print.Fp.{Fp}
 use Rattle.dd_rig.specs.declared.device.Dev.TheVariants as dev
@@ -12,13 +12,18 @@ use Rattle.dd_script.specs.declared.reply.Stop.TheVariants as stop
 use Rattle.dd_script.specs.Command.{Command}
 use Rattle.dd_script.specs.Script.{lines_of, commands_of, EndsWithin}
 use Rattle.dd_script.specs.Text.{HasNoEnd, ended, stop_text}
-use Rattle.dd_script.specs.Output.{output}
+use Rattle.dd_script.specs.declared.dialect.Dialect.{Dialect}
+use Rattle.dd_script.specs.Output.{reading_dialect_of, output}
 use Rattle.dd_script.specs.Answers.{Answers, AnswersAll, faults_in}
 use Rattle.dd_serve.specs.declared.words.Plan.{Plan}
 use Rattle.dd_slots.specs.Slots.{AreNew}
 use Rattle.dd_model.specs.Listing.{empty_listing}
 use Rattle.dd_serve.specs.Scratch.{ScratchView}
-use Rattle.dd_serve.specs.Ending.{stopped_status}
+use Rattle.dd_loop.specs.Ending.{stopped_status}
+use Rattle.dd_loop.specs.declared.halt.Halt.{Halt}
+use Rattle.dd_loop.specs.Answering.{Pays}
+use Rattle.dd_loop.specs.Serving.{ServedAll, ServedUpTo}
+use Rattle.dd_serve.specs.Answering.{StaysBy}
 use Rattle.dd_serve.specs.Calls.{AsksForLines, loads_in, unfinished}
 
 -- no more blocks than these are numbered
@@ -36,16 +41,20 @@ plan_sizes plan disk = record { block = plan.block; blocks = blocks_of plan disk
 abbrev pub replay_start : Plan → (disk : ℕ) → World → State
 replay_start plan disk world = fresh (array_of plan.block (blocks_of plan disk) (shown dev.Disk world))
 
+-- its lines only read
+abbrev pub replay_dialect : Plan → (disk : ℕ) → Dialect
+replay_dialect plan disk = reading_dialect_of (plan_sizes plan disk)
+
 abbrev pub replay_commands : Plan → (disk : ℕ) → List ℕ → List Command
-replay_commands plan disk script = commands_of (blocks_of plan disk) script
+replay_commands plan disk script = commands_of (replay_dialect plan disk) script
 
 -- what a replay of a script prints, where no call fails
 abbrev pub replay_output : (List ℕ → Fp) → Plan → (disk : ℕ) → World → List ℕ → List ℕ
-replay_output print plan disk world script = output print (plan_sizes plan disk) (replay_start plan disk world) script
+replay_output print plan disk world script = output print (plan_sizes plan disk) (replay_start plan disk world) (replay_dialect plan disk) script
 
 -- a script has fewer than 2^40 bytes, or a whole line q among so many
 abbrev pub IsBounded : Plan → (disk : ℕ) → List ℕ → Type 0
-IsBounded plan disk script = EndsWithin 1099511627776 (blocks_of plan disk) script
+IsBounded plan disk script = EndsWithin 1099511627776 (replay_dialect plan disk) script
 
 -- the scratch of a replay at its start: nothing is listed, and each slot is free
 pub record IsFirst (plan : Plan) (disk : ℕ) (scratch : ScratchView) : Type 0 where
@@ -53,6 +62,16 @@ pub record IsFirst (plan : Plan) (disk : ℕ) (scratch : ScratchView) : Type 0 w
   pub lists : scratch.lists ≡ empty_listing plan.acap plan.bcap (plan.bcap + 1)
   pub slots : AreNew 64 plan.block (plan.bcap + 1) [] scratch.slots
   pub count : scratch.count ≡ 0
+
+-- each line of the script was answered, from that state on, and paid
+abbrev pub ReplaysAll : (List ℕ → Fp) → Plan → (disk : ℕ) → (faulted : Bool) → (script : List ℕ) → (old new : World) → (before after : Counts) → Type 0
+ReplaysAll print plan disk faulted script old new before after =
+    ServedAll print (plan_sizes plan disk) (StaysBy old) (replay_start plan disk old) (replay_commands plan disk script) (Pays (AsksForLines (plan_sizes plan disk)) before after) faulted old.said new
+
+-- the first of them were
+abbrev pub ReplaysUpTo : (List ℕ → Fp) → Plan → (disk : ℕ) → Halt → (script : List ℕ) → (old new : World) → (before after : Counts) → Type 0
+ReplaysUpTo print plan disk halt script old new before after =
+    ServedUpTo print (plan_sizes plan disk) (StaysBy old) (replay_start plan disk old) (replay_commands plan disk script) (Pays (AsksForLines (plan_sizes plan disk)) before after) halt old.said new
 
 -- what was said in between
 abbrev pub said_since : World → World → List ℕ

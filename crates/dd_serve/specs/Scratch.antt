@@ -20,7 +20,7 @@ use Rattle.dd_model.specs.Reference.{read_kind}
 use Rattle.dd_model.specs.Rows.{Shows, entry_of, held_block}
 use Rattle.dd_model.specs.Listing.{Listing, row_of, touch_by}
 use Rattle.dd_store.specs.Referring.{IsThere, IsPlaced, slots_let_go}
-use Rattle.dd_serve.specs.Saying.{front_of}
+use Rattle.dd_loop.specs.Saying.{front_of}
 
 -- both lists, the slots of the flash, and how many references were made; the disk has so many blocks
 pub record ScratchView : Type 0 where
@@ -93,11 +93,14 @@ pub record Scratched (before after : World) : Type 0 where
 abbrev pub OnlyFlash : World → World → Type 0
 OnlyFlash before after = Scratched before after × (after.said ≡ before.said)
 
--- What a crash within a replay leaves: each of the first 64 bytes of the flash as a crash at its start might have left it, and of
--- the disk the same.
-pub record KeepsDevices (first : World) (o : Outcome) : Type 0 where
-  pub front : (place : ℕ) → place < 64 → IsOutside first.flash.ranges place → slice_index o.flash place ≡ slice_index first.flash.stable place
-  pub disk : IsImage first.disk o.disk
+-- What a crash within a replay leaves of both devices: each of the first 64 bytes of the flash as a crash at its start might have left
+-- it, and of the disk the same.
+pub record KeepsImages (first : World) (on_flash on_disk : List ℕ) : Type 0 where
+  pub front : (place : ℕ) → place < 64 → IsOutside first.flash.ranges place → slice_index on_flash place ≡ slice_index first.flash.stable place
+  pub disk : IsImage first.disk on_disk
+
+abbrev pub KeepsDevices : World → Outcome → Type 0
+KeepsDevices first o = KeepsImages first o.flash o.disk
 
 -- the same, and nothing is said
 abbrev pub IsWithin : World → Outcome → Type 0

@@ -8,14 +8,13 @@ ghost use Rattle.dd_rig.specs.Leaves.{SameOutside};
 ghost use Rattle.dd_journal.specs.Sitting.{regions_size};
 ghost use Rattle.dd_script.specs.declared.reply.Reply.TheVariants as reply;
 ghost use Rattle.dd_script.specs.Text.{ended, reply_text};
-ghost use Rattle.dd_serve.specs.Saying.{IsIdle, SaysAlone};
+ghost use Rattle.dd_loop.specs.Saying.{IsIdle, SaysAlone};
 ghost use Rattle.dd_serve.specs.Formats.{Formats, FormatLeaves, IsFormatStatus, ending_of};
 ghost use Rattle.dd_serve.specs.Refusing.{Refuses, StopsAtDevice, small_for, refusal_for};
 ghost use Rattle.dd_serve.specs.declared.words.Asked.TheVariants.{Format};
 
-use crate::answering::say;
-use crate::ending::{Ending, finish};
 use dd_block::Geometry;
+use dd_loop::{Ending, finish, say};
 use dd_recover::{FormatFault, format_flash};
 use dd_rig::Rig;
 use dd_script::{REPLY_ROOM, Refusal, Reply, Stop, write_reply};

@@ -7,22 +7,21 @@ ghost use Rattle.dd_script.specs.Reading.{IsTakenTo};
 ghost use Rattle.dd_script.specs.Text.{stop_text};
 ghost use Rattle.dd_script.specs.declared.reply.Stop.TheVariants.{Memory};
 ghost use Rattle.dd_serve.specs.declared.words.Asked.TheVariants.{Replay};
-ghost use Rattle.dd_serve.specs.Causes.{Halts};
+ghost use Rattle.dd_loop.specs.Halting.{Halts};
 ghost use Rattle.dd_serve.specs.Words.{IsPlan};
 ghost use Rattle.dd_rig.specs.Clock.{AddsNone, Elapses};
 ghost use Rattle.dd_serve.specs.Calls.{looked};
 ghost use Rattle.dd_serve.specs.Scratch.{Scratched, KeepsDevices};
-ghost use Rattle.dd_serve.specs.Saying.{IsIdle, SaysAlone};
+ghost use Rattle.dd_loop.specs.Saying.{IsIdle, SaysAlone};
 ghost use Rattle.dd_serve.specs.Refusing.{Refuses, StopsAtDevice, small_for, refusal_for};
-ghost use Rattle.dd_serve.specs.Answering.{AnsweredAll, AnsweredUpTo};
-ghost use Rattle.dd_serve.specs.Replays.{Replays, IsBounded, IsFirst, blocks_of, plan_sizes, replay_start, replay_commands};
+ghost use Rattle.dd_serve.specs.Answering.{IsFlash};
+ghost use Rattle.dd_serve.specs.Replays.{Replays, ReplaysAll, ReplaysUpTo, IsBounded, IsFirst, replay_dialect};
 
-use crate::answering::serve;
-use crate::ending::{Ending, finish};
-use crate::halt::Halt;
+use crate::cache::ScratchCache;
 use crate::scratch::Scratch;
 use crate::words::Plan;
 use dd_block::Fingerprint;
+use dd_loop::{Ending, Halt, finish, serve_lines};
 use dd_model::{Lists, PlainLists};
 use dd_rig::{Dev, Failed, Rig, Source};
 use dd_script::{REPLY_ROOM, Reader, Refusal, Stop};
@@ -38,7 +37,7 @@ pub fn run_replay<F: Fingerprint, R: Rig, S: Source>(
     plan: Plan,
     source: &mut S,
     rig: &mut R,
-    print: &F,
+    print: F,
 ) -> u8
     requires plan { IsPlan plan }
     requires large { small_for (Replay plan) (R.device_size rig.old) ≡ None }
@@ -49,8 +48,8 @@ pub fn run_replay<F: Fingerprint, R: Rig, S: Source>(
     ensures device { result ≡ 7 → StopsAtDevice (Replay plan) (λ line. R.tells → SaysAlone line (R.counts rig.old) (R.counts rig.new) (R.world rig.old) (R.world rig.new)) (R.counts rig.old) (R.counts rig.new) }
     ensures memory { R.tells → result ≡ 4 → SaysAlone (stop_text Memory) (R.counts rig.old) (R.counts rig.new) (R.world rig.old) (R.world rig.new) }
     ensures served { R.tells → S.tells → refusal_for (Replay plan) (R.device_size rig.old) (shown FlashDevice (R.world rig.old)) ≡ None
-        → Replays (F.printed print.now) plan (R.device_size rig.old DiskDevice) result (S.rest source.old) (R.world rig.old) (R.world rig.new) (looked (R.counts rig.old)) (R.counts rig.new) }
-    ensures taken { S.tells → result ≤ 1 → IsTakenTo (blocks_of plan (R.device_size rig.old DiskDevice)) (S.rest source.old) (S.rest source.new) }
+        → Replays (F.printed print) plan (R.device_size rig.old DiskDevice) result (S.rest source.old) (R.world rig.old) (R.world rig.new) (looked (R.counts rig.old)) (R.counts rig.new) }
+    ensures taken { S.tells → result ≤ 1 → IsTakenTo (replay_dialect plan (R.device_size rig.old DiskDevice)) (S.rest source.old) (S.rest source.new) }
     ensures untaken { (result ≡ 3) ⊎ (result ≡ 4) → source.new ≡ source.old }
     ensures others { R.tells → Scratched (R.world rig.old) (R.world rig.new) }
     ensures time { R.tells → Elapses (R.clock rig.old) (R.clock rig.new) (KeepsDevices (R.world rig.old)) }
@@ -85,7 +84,7 @@ fn serve_plan<F: Fingerprint, R: Rig, S: Source>(
     plan: Plan,
     source: &mut S,
     rig: &mut R,
-    print: &F,
+    print: F,
 ) -> u8
     requires plan { IsPlan plan }
     requires large { small_for (Replay plan) (R.device_size rig.old) ≡ None }
@@ -94,11 +93,11 @@ fn serve_plan<F: Fingerprint, R: Rig, S: Source>(
     ensures emit { result ≡ 6 → Rose (R.counts rig.old).failed_emits (R.counts rig.new).failed_emits }
     ensures device { result ≡ 7 → Rose (R.counts rig.old).flash.failed_writes (R.counts rig.new).flash.failed_writes }
     ensures memory { R.tells → result ≡ 4 → SaysAlone (stop_text Memory) (R.counts rig.old) (R.counts rig.new) (R.world rig.old) (R.world rig.new) }
-    ensures served { R.tells → S.tells → Replays (F.printed print.now) plan (R.device_size rig.old DiskDevice) result (S.rest source.old) (R.world rig.old) (R.world rig.new) (R.counts rig.old) (R.counts rig.new) }
+    ensures served { R.tells → S.tells → Replays (F.printed print) plan (R.device_size rig.old DiskDevice) result (S.rest source.old) (R.world rig.old) (R.world rig.new) (R.counts rig.old) (R.counts rig.new) }
     ensures others { R.tells → Scratched (R.world rig.old) (R.world rig.new) }
     ensures time { R.tells → Elapses (R.clock rig.old) (R.clock rig.new) (KeepsDevices (R.world rig.old)) }
     ensures untouched { (R.counts rig.new).disk.writes ≡ (R.counts rig.old).disk.writes }
-    ensures taken { S.tells → result ≤ 1 → IsTakenTo (blocks_of plan (R.device_size rig.old DiskDevice)) (S.rest source.old) (S.rest source.new) }
+    ensures taken { S.tells → result ≤ 1 → IsTakenTo (replay_dialect plan (R.device_size rig.old DiskDevice)) (S.rest source.old) (S.rest source.new) }
     ensures untaken { result ≡ 4 → source.new ≡ source.old }
     ensures idle { result ≡ 4 → IsIdle (R.counts rig.old) (R.counts rig.new) }
     ensures later { NeverFalls (R.counts rig.old) (R.counts rig.new) }
@@ -135,40 +134,42 @@ fn serve_script<L: Lists, F: Fingerprint, R: Rig, S: Source>(
     plan: Plan,
     source: &mut S,
     rig: &mut R,
-    print: &F,
+    print: F,
 ) -> Result<Result<bool, Halt>, AllocError>
     requires plan { IsPlan plan }
     requires large { small_for (Replay plan) (R.device_size rig.old) ≡ None }
-    ensures all { R.tells → S.tells → IfOk result (λ served. IfOk served (λ faulted. AnsweredAll (F.printed print.now) (plan_sizes plan (R.device_size rig.old DiskDevice)) (replay_start plan (R.device_size rig.old DiskDevice) (R.world rig.old))
-        (replay_commands plan (R.device_size rig.old DiskDevice) (S.rest source.old)) faulted (R.world rig.old).said (R.world rig.new).said (R.counts rig.old) (R.counts rig.new))) }
-    ensures some { R.tells → S.tells → IfOk result (λ served. IfErr served (λ halt. AnsweredUpTo (F.printed print.now) (plan_sizes plan (R.device_size rig.old DiskDevice)) (replay_start plan (R.device_size rig.old DiskDevice) (R.world rig.old))
-        (replay_commands plan (R.device_size rig.old DiskDevice) (S.rest source.old)) halt (R.world rig.old).said (R.world rig.new).said (R.counts rig.old) (R.counts rig.new))) }
+    ensures all { R.tells → S.tells → IfOk result (λ served. IfOk served (λ faulted. ReplaysAll (F.printed print) plan (R.device_size rig.old DiskDevice) faulted (S.rest source.old) (R.world rig.old) (R.world rig.new) (R.counts rig.old) (R.counts rig.new))) }
+    ensures some { R.tells → S.tells → IfOk result (λ served. IfErr served (λ halt. ReplaysUpTo (F.printed print) plan (R.device_size rig.old DiskDevice) halt (S.rest source.old) (R.world rig.old) (R.world rig.new) (R.counts rig.old) (R.counts rig.new))) }
     ensures bounded { S.tells → IfOk result (λ served. OnOk served (IsBounded plan (R.device_size rig.old DiskDevice) (S.rest source.old))) }
     ensures early { OnErr result (R.tells → R.world rig.new ≡ R.world rig.old) }
-    ensures taken { S.tells → IfOk result (λ served. OnOk served (IsTakenTo (blocks_of plan (R.device_size rig.old DiskDevice)) (S.rest source.old) (S.rest source.new))) }
+    ensures taken { S.tells → IfOk result (λ served. OnOk served (IsTakenTo (replay_dialect plan (R.device_size rig.old DiskDevice)) (S.rest source.old) (S.rest source.new))) }
     ensures untaken { OnErr result (source.new ≡ source.old) }
     ensures early_counts { OnErr result (R.counts rig.new ≡ R.counts rig.old) }
     ensures others { R.tells → Scratched (R.world rig.old) (R.world rig.new) }
     ensures time { R.tells → Elapses (R.clock rig.old) (R.clock rig.new) (KeepsDevices (R.world rig.old)) }
     ensures untouched { (R.counts rig.new).disk.writes ≡ (R.counts rig.old).disk.writes }
     ensures later { NeverFalls (R.counts rig.old) (R.counts rig.new) }
-    ensures halt { IfOk result (λ served. IfErr served (λ halt. Halts (Rose (S.failures source.old) (S.failures source.new)) (S.tells → IsBounded plan (R.device_size rig.old DiskDevice) (S.rest source.old) → ⊥) halt
+    ensures halt { IfOk result (λ served. IfErr served (λ halt. Halts IsFlash (Rose (S.failures source.old) (S.failures source.new)) (S.tells → IsBounded plan (R.device_size rig.old DiskDevice) (S.rest source.old) → ⊥) halt
         (R.counts rig.old) (R.counts rig.new))) }
 {
     let size = plan.block as usize;
-    let mut scratch = start::<L, R>(alloc, plan, rig)?;
+    let scratch = start::<L, R>(alloc, plan, rig)?;
     let mut reader = Reader::new(alloc)?;
     let mut block = vec![in alloc; 0; size]?;
-    let mut other = vec![in alloc; 0; size]?;
+    let other = vec![in alloc; 0; size]?;
     let mut text = vec![in alloc; 0; REPLY_ROOM]?;
-    Ok(serve(
-        &mut scratch,
+    let mut cache = ScratchCache {
+        scratch,
+        print,
+        other,
+        block: plan.block,
+    };
+    Ok(serve_lines(
+        &mut cache,
         &mut reader,
         source,
         rig,
-        print,
         &mut block,
-        &mut other,
         &mut text,
     ))
 }

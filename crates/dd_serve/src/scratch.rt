@@ -95,11 +95,10 @@ impl<L: Lists> Scratch<L> {
         requires size { (length block.old ≡ self.old.slots.block) × (length other.old ≡ self.old.slots.block) }
         requires fits { Fits self.old (R.device_size rig.old) }
         requires count { self.old.count + 1 < 2 ^ 64 }
-        requires sound { R.tells → IsSound (F.printed print.now) self.old (R.world rig.old) }
-        ensures answer { R.tells → IfOk result (λ done. Tells (F.printed print.now) done (read_answer (scratch_sizes self.old) (scratch_state self.old (R.world rig.old)) address)) }
-        ensures block { R.tells → OnOk result (block.new ≡ content (scratch_state self.old (R.world rig.old)).array address) }
-        ensures state { R.tells → OnOk result (scratch_state self.new (R.world rig.new) ≡ reference (scratch_sizes self.old) (scratch_state self.old (R.world rig.old)) address (content (scratch_state self.old (R.world rig.old)).array address)) }
-        ensures sound { R.tells → OnOk result (IsSound (F.printed print.now) self.new (R.world rig.new)) }
+        ensures answer { R.tells → IsSound (F.printed print.now) self.old (R.world rig.old) → IfOk result (λ done. Tells (F.printed print.now) done (read_answer (scratch_sizes self.old) (scratch_state self.old (R.world rig.old)) address)) }
+        ensures block { R.tells → IsSound (F.printed print.now) self.old (R.world rig.old) → OnOk result (block.new ≡ content (scratch_state self.old (R.world rig.old)).array address) }
+        ensures state { R.tells → IsSound (F.printed print.now) self.old (R.world rig.old) → OnOk result (scratch_state self.new (R.world rig.new) ≡ reference (scratch_sizes self.old) (scratch_state self.old (R.world rig.old)) address (content (scratch_state self.old (R.world rig.old)).array address)) }
+        ensures sound { R.tells → IsSound (F.printed print.now) self.old (R.world rig.old) → OnOk result (IsSound (F.printed print.now) self.new (R.world rig.new)) }
         ensures fits { OnOk result (Fits self.new (R.device_size rig.new)) }
         ensures sizes { OnOk result ((scratch_sizes self.new ≡ scratch_sizes self.old) × (self.new.count ≡ self.old.count + 1)) }
         ensures kept { OnErr result (self.new ≡ self.old) }
@@ -109,7 +108,7 @@ impl<L: Lists> Scratch<L> {
         ensures untouched { (R.counts rig.new).disk.writes ≡ (R.counts rig.old).disk.writes }
         ensures frame { Frame (R.counts rig.old) (R.counts rig.new) (R.device_size rig.old) (R.device_size rig.new) }
         ensures asks { IfErr result (λ fault. AsksFor self.old.slots.block self.old.lists.bcap 0 1 (writes_until fault) (R.counts rig.old) (R.counts rig.new)) }
-        ensures asks_for { R.tells → IfOk result (λ done. AsksFor self.old.slots.block self.old.lists.bcap (slots_for done.kind block.new) (looks_for done.kind) (writes_for done.kind) (R.counts rig.old) (R.counts rig.new)) }
+        ensures asks_for { R.tells → IsSound (F.printed print.now) self.old (R.world rig.old) → IfOk result (λ done. AsksFor self.old.slots.block self.old.lists.bcap (slots_for done.kind block.new) (looks_for done.kind) (writes_for done.kind) (R.counts rig.old) (R.counts rig.new)) }
         ensures cause { IfErr result (λ fault. Faulted fault (R.counts rig.old) (R.counts rig.new)) }
     {
         let (kind, given) = locate(

@@ -18,7 +18,10 @@ use Rattle.dd_loop.specs.Answering.{Pays, AnswersLine, WithinLine, CutsLine}
 use Rattle.dd_loop.specs.Serving.{ServedUpTo}
 use Rattle.dd_loop.specs.Standing.{AllStand, AllStandForEither}
 use Rattle.dd_loop.specs.Terms.{Terms, dialect_in}
+use Rattle.dd_script.specs.Line.{IsIn}
+use Rattle.dd_script.specs.declared.dialect.Dialect.{Dialect}
 use Rattle.dd_loop.proofs.Faults.{counts_none}
+use Rattle.dd_loop.proofs.Keeping.{SomeKept, some_after, some_moments}
 use Rattle.dd_loop.proofs.Paying.{pays_more, pays_begun, pays_cut}
 use Rattle.dd_loop.proofs.Reading.{same_front, bounds_for, passes_for, commands_some}
 use Rattle.dd_loop.proofs.Standing.{Going, going_first, going_line, prefix_within, halts_between, halts_within, served_all, after_front, front_quit, front_other}
@@ -34,6 +37,8 @@ lines-init g c = record {
       (g.C.Cache.kept c.args.cache.now first (g.R.Rig.world c.args.rig.now)) (λ lines. Pays (g.C.Cache.costs c.args.cache.now c.args.cache.now) counts counts lines 0) kept
       (g.met.C.Cache.free c.args.cache.now counts, counts_none counts counts (falls_self counts));
   crash = λ t u first start kept. starts (g.R.Rig.clock c.args.rig.now) _;
+  holds = λ t first one s kept. record { committed = one; held = s; kept = kept };
+  moments = λ t first one s kept. starts (g.R.Rig.clock c.args.rig.now) _;
   same = refl;
   ready = c.requires.ready;
   falls = falls_self (g.R.Rig.counts c.args.rig.now);
@@ -251,6 +256,18 @@ lines-preserved g c =
           (c.answer_line.ensures.crash t first committed held so.kept) in
           goes_on (c.lines.invariant.crash t u first start kept) call
           (λ outcome h. prefix_within StandFor terms.print terms.sizes start commands said Kept Paid c.lines.faulted old.said now so o next front old refl outcome h);
+      holds = λ t first one s kept.
+          let so : SomeKept (g.C.Cache.kept c.lines.cache first (g.R.Rig.world c.lines.rig)) = c.lines.invariant.holds t first one s kept in
+          some_after _ _ so.committed so.held (g.C.Cache.kept c.answer_line.new.cache first (g.R.Rig.world c.answer_line.new.rig)) (λ lines. Pays (g.C.Cache.costs c.lines.cache c.answer_line.new.cache) (g.R.Rig.counts c.lines.rig) (g.R.Rig.counts c.answer_line.new.rig) lines 0) (told c.next.new.into c.in-Ok.line) c.in_ok-failed.failed _ _ (c.in_ok-failed.ensures.answer t first so.committed so.held so.kept);
+      moments = λ t first one s kept.
+          let terms : Terms = g.C.Cache.terms c.args.cache.now in
+          let old : World = g.R.Rig.world c.lines.rig in
+          let o : Option Command = told c.next.new.into c.in-Ok.line in
+          let so : SomeKept (g.C.Cache.kept c.lines.cache first old) = c.lines.invariant.holds t first one s kept in
+          let call : Elapses (g.R.Rig.clock c.lines.rig) (g.R.Rig.clock c.answer_line.new.rig) (WithinLine terms.print terms.sizes (g.C.Cache.stands terms first) so.committed so.held o old) =
+          subst (λ (x : Terms). Elapses (g.R.Rig.clock c.lines.rig) (g.R.Rig.clock c.answer_line.new.rig) (WithinLine x.print x.sizes (g.C.Cache.stands x first) so.committed so.held o old)) c.lines.invariant.same
+          (c.answer_line.ensures.crash t first so.committed so.held so.kept) in
+          some_moments terms.print terms.sizes so.committed so.held (g.C.Cache.stands terms first) o old (c.lines.invariant.moments t first one s kept) call;
       same = c.answer_line.ensures.same ∙ c.lines.invariant.same;
       ready = c.in_ok-failed.ensures.ready (fuel c.next.new.self + 1)
           (g.met.C.Cache.fewer c.lines.cache (fuel c.lines.reader + 1) (fuel c.next.new.self + 1 + 1) (g.R.Rig.device_size c.lines.rig) (omega (arith, burns)) c.lines.invariant.ready);
@@ -285,3 +302,29 @@ returns-then-is_quit-clause-does g c = g.met.C.Cache.does_both _ _ _ c.lines.inv
 
 pub returns-then-is_quit-clause-leaves : goal.returns-then-is_quit-clause-leaves
 returns-then-is_quit-clause-leaves g c = λ t. g.met.C.Cache.leaves_both _ _ _ (c.lines.invariant.leaves t) (c.answer_line.ensures.leaves t)
+
+pub returns-in_err-failed-clause-moments : goal.returns-in_err-failed-clause-moments
+returns-in_err-failed-clause-moments g c = λ t first one s kept.
+    let terms : Terms = g.C.Cache.terms c.args.cache.now in
+    let old : World = g.R.Rig.world c.lines.rig in
+    let o : Option Command = told c.next.new.into c.in-Ok.line in
+    let so : SomeKept (g.C.Cache.kept c.lines.cache first old) = c.lines.invariant.holds t first one s kept in
+    let call : Elapses (g.R.Rig.clock c.lines.rig) (g.R.Rig.clock c.answer_line.new.rig) (WithinLine terms.print terms.sizes (g.C.Cache.stands terms first) so.committed so.held o old) =
+    subst (λ (x : Terms). Elapses (g.R.Rig.clock c.lines.rig) (g.R.Rig.clock c.answer_line.new.rig) (WithinLine x.print x.sizes (g.C.Cache.stands x first) so.committed so.held o old)) c.lines.invariant.same
+    (c.answer_line.ensures.crash t first so.committed so.held so.kept) in
+    some_moments terms.print terms.sizes so.committed so.held (g.C.Cache.stands terms first) o old (c.lines.invariant.moments t first one s kept) call
+
+pub returns-then-is_quit-clause-moments : goal.returns-then-is_quit-clause-moments
+returns-then-is_quit-clause-moments g c = λ t first one s kept.
+    let terms : Terms = g.C.Cache.terms c.args.cache.now in
+    let old : World = g.R.Rig.world c.lines.rig in
+    let o : Option Command = told c.next.new.into c.in-Ok.line in
+    let so : SomeKept (g.C.Cache.kept c.lines.cache first old) = c.lines.invariant.holds t first one s kept in
+    let call : Elapses (g.R.Rig.clock c.lines.rig) (g.R.Rig.clock c.answer_line.new.rig) (WithinLine terms.print terms.sizes (g.C.Cache.stands terms first) so.committed so.held o old) =
+    subst (λ (x : Terms). Elapses (g.R.Rig.clock c.lines.rig) (g.R.Rig.clock c.answer_line.new.rig) (WithinLine x.print x.sizes (g.C.Cache.stands x first) so.committed so.held o old)) c.lines.invariant.same
+    (c.answer_line.ensures.crash t first so.committed so.held so.kept) in
+    some_moments terms.print terms.sizes so.committed so.held (g.C.Cache.stands terms first) o old (c.lines.invariant.moments t first one s kept) call
+
+pub answer_line-requires-clause-within : goal.answer_line-requires-clause-within
+answer_line-requires-clause-within g c =
+    subst (λ (x : Terms). IsIn (dialect_in x) c.in-Ok.line) (sym c.lines.invariant.same) (subst (λ (d : Dialect). IsIn d c.in-Ok.line) c.dialect-dialect.ensures.dialect c.in-Ok.ensures.within)

@@ -6,7 +6,8 @@ use Rattle.dd_model.specs.State.{State}
 use Rattle.dd_script.specs.Reading.{left, fuel}
 use Rattle.dd_script.specs.Script.{commands_of, EndsWithin}
 use Rattle.dd_loop.specs.Answering.{Pays}
-use Rattle.dd_loop.specs.Standing.{StandForPrefix}
+use Rattle.dd_loop.specs.Standing.{StandForPrefix, StandForSome}
+use Rattle.dd_loop.proofs.Keeping.{SomeKept}
 use Rattle.dd_loop.specs.Terms.{dialect_in}
 use Rattle.dd_loop.proofs.Standing.{Going}
 use Rattle.dd_loop.proofs.Taken.{GoesThrough}
@@ -26,6 +27,9 @@ invariant-lines g l =
           (commands_of (dialect_in terms) (left l.reader (g.S.Source.rest l.source)));
       crash : g.R.Rig.tells → g.S.Source.tells → (first : World) (start : State) → g.C.Cache.kept l.fn.cache first (world l.fn.rig) start start
           → Elapses (g.R.Rig.clock l.fn.rig) (g.R.Rig.clock l.rig) (StandForPrefix (g.C.Cache.stands terms first) terms.print terms.sizes start commands (world l.fn.rig).said);
+      holds : g.R.Rig.tells → (first : World) (c s : State) → g.C.Cache.kept l.fn.cache first (world l.fn.rig) c s → SomeKept (g.C.Cache.kept l.cache first (world l.rig));
+      moments : g.R.Rig.tells → (first : World) (c s : State) → g.C.Cache.kept l.fn.cache first (world l.fn.rig) c s
+          → Elapses (g.R.Rig.clock l.fn.rig) (g.R.Rig.clock l.rig) (StandForSome (g.C.Cache.stands terms first));
       same : g.C.Cache.terms l.cache ≡ terms;
       ready : g.C.Cache.ready l.cache (fuel l.reader + 1) (g.R.Rig.device_size l.rig);
       falls : NeverFalls (g.R.Rig.counts l.fn.rig) (g.R.Rig.counts l.rig);

@@ -10,10 +10,10 @@ use Rattle.dd_rig.specs.Device.{Device, IsImage}
 use Rattle.dd_script.specs.declared.reply.Reply.TheVariants as reply
 use Rattle.dd_script.specs.Text.{ended, reply_text}
 use Rattle.dd_serve.specs.declared.words.Asked.TheVariants.{Format}
-use Rattle.dd_serve.specs.Ending.{SaysLast, ending_line, status_of}
+use Rattle.dd_loop.specs.Ending.{SaysLast, ending_line, status_of}
 use Rattle.dd_serve.specs.Formats.{Formats, ending_of}
 use Rattle.dd_serve.specs.Refusing.{Refuses, small_for, in_use, flash_needs, disk_needs}
-use Rattle.dd_serve.specs.Saying.{SaysAlone}
+use Rattle.dd_loop.specs.Saying.{SaysAlone}
 use Rattle.dd_serve.proofs.Refused.{says_sooner, last_sooner, refuses_fault, refuses_large, small_none, device_fault, format_leaves, formats_none}
 use Rattle.dd_serve.proofs.format.run_format.Goals as goal
 

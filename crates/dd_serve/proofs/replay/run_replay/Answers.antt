@@ -13,9 +13,9 @@ use Rattle.std.specs.Prelude.{if◌then◌else◌}
 use Rattle.dd_script.specs.Text.{stop_text, refusal_text}
 use Rattle.dd_serve.specs.declared.words.Asked.TheVariants.{Replay}
 use Rattle.dd_serve.specs.Refusing.{Refuses, small_for, in_use}
-use Rattle.dd_serve.specs.Replays.{Replays, blocks_of, plan_sizes}
-use Rattle.dd_serve.specs.Saying.{SaysAlone}
-use Rattle.dd_serve.proofs.Going.{commands_some}
+use Rattle.dd_serve.specs.Replays.{Replays, replay_dialect, plan_sizes}
+use Rattle.dd_loop.specs.Saying.{SaysAlone}
+use Rattle.dd_loop.proofs.Reading.{commands_some}
 use Rattle.dd_serve.proofs.Finishing.{stops_alone, stops_early}
 use Rattle.dd_serve.specs.Calls.{looked}
 use Rattle.dd_serve.proofs.Looking.{one_look, looked_falls, asks_looked}
@@ -53,7 +53,7 @@ returns-in-Err-clause-device g c = λ seven.
 
 pub returns-in-Err-clause-served : goal.returns-in-Err-clause-served
 returns-in-Err-clause-served g c = λ t u first.
-    let print = g.F.Fingerprint.printed c.args.print.now in
+    let print = g.F.Fingerprint.printed c.args.print in
     let old : World = g.R.Rig.world c.args.rig.now in
     let new : World = g.R.Rig.world c.finish.new.rig in
     let before : Counts = looked (g.R.Rig.counts c.args.rig.now) in
@@ -65,8 +65,8 @@ returns-in-Err-clause-served g c = λ t u first.
     let asks = asks_looked (plan_sizes c.args.plan (g.R.Rig.device_size c.args.rig.now Disk)) c.is_in_use.result (g.R.Rig.counts c.args.rig.now) between one in
     let said : SaysAlone (stop_text stop.Flash) between after old new = subst (λ (w : World). SaysAlone (stop_text stop.Flash) between after w new) (c.in-Err.ensures.world t) (c.finish.ensures.said t) in
     subst (λ (n : ℕ). Replays print c.args.plan (g.R.Rig.device_size c.args.rig.now Disk) n script old new before after) (sym c.finish.ensures.status)
-    (stops_alone print c.args.plan (g.R.Rig.device_size c.args.rig.now Disk) script old before stop.Flash old new between after later c.finish.ensures.later c.finish.ensures.idle
-    (stops_early print c.args.plan (g.R.Rig.device_size c.args.rig.now Disk) script old before stop.Flash between later asks (λ e. absurd (cc)) (λ e. omega (arith, e)) (commands_some (blocks_of c.args.plan (g.R.Rig.device_size c.args.rig.now Disk)) script)) said)
+    (stops_alone print c.args.plan (g.R.Rig.device_size c.args.rig.now Disk) script old before stop.Flash old new between after later c.finish.ensures.frame.0 c.finish.ensures.idle
+    (stops_early print c.args.plan (g.R.Rig.device_size c.args.rig.now Disk) script old before stop.Flash between later asks (λ e. absurd (cc)) (λ e. omega (arith, e)) (commands_some (replay_dialect c.args.plan (g.R.Rig.device_size c.args.rig.now Disk)) script)) said)
 
 pub returns-in-Ok-true-clause-refused : goal.returns-in-Ok-true-clause-refused
 returns-in-Ok-true-clause-refused g c = λ t.
@@ -84,7 +84,7 @@ returns-in-Ok-true-clause-refused g c = λ t.
 
 pub returns-in-Ok-false-clause-served : goal.returns-in-Ok-false-clause-served
 returns-in-Ok-false-clause-served g c = λ t u first.
-    let print = g.F.Fingerprint.printed c.args.print.now in
+    let print = g.F.Fingerprint.printed c.args.print in
     let old : World = g.R.Rig.world c.args.rig.now in
     let new : World = g.R.Rig.world c.serve_plan.new.rig in
     let after : Counts = g.R.Rig.counts c.serve_plan.new.rig in

@@ -5,18 +5,18 @@ use Rattle.dd_rig.specs.declared.device.Dev.TheVariants.{Disk}
 use Rattle.dd_rig.specs.World.{World}
 use Rattle.dd_script.specs.declared.reply.Stop.TheVariants as stop
 use Rattle.dd_script.specs.Text.{stop_text}
-use Rattle.dd_serve.specs.declared.halt.Halt.TheVariants.{Stopped}
-use Rattle.dd_serve.specs.declared.ending.Ending.TheVariants.{Served}
-use Rattle.dd_serve.specs.Ending.{status_of}
-use Rattle.dd_serve.specs.Causes.{Halts}
-use Rattle.dd_serve.specs.Answering.{AnsweredAll, AnsweredUpTo}
-use Rattle.dd_serve.specs.Saying.{IsIdle, SaysAlone}
-use Rattle.dd_serve.specs.Replays.{Replays, IsBounded, plan_sizes, replay_start, replay_commands, blocks_of}
+use Rattle.dd_loop.specs.declared.halt.Halt.TheVariants.{Stopped}
+use Rattle.dd_loop.specs.declared.ending.Ending.TheVariants.{Served}
+use Rattle.dd_loop.specs.Ending.{status_of}
+use Rattle.dd_loop.specs.Halting.{Halts}
+use Rattle.dd_serve.specs.Answering.{IsFlash}
+use Rattle.dd_loop.specs.Saying.{IsIdle, SaysAlone}
+use Rattle.dd_serve.specs.Replays.{Replays, ReplaysAll, ReplaysUpTo, IsBounded, plan_sizes, replay_dialect}
 use Rattle.dd_rig.proofs.Falling.{falls_self}
-use Rattle.dd_serve.proofs.Costs.{asks_early}
+use Rattle.dd_serve.specs.Laws.{asks_early}
 use Rattle.dd_serve.proofs.Moments.{end_moment}
-use Rattle.dd_serve.proofs.Going.{commands_some}
-use Rattle.dd_serve.proofs.Causes.{halts_by}
+use Rattle.dd_loop.proofs.Reading.{commands_some}
+use Rattle.dd_loop.proofs.Causes.{halts_by}
 use Rattle.dd_serve.proofs.Finishing.{status_for, serves_all, serves_cut, ends_silent, stops_alone, stops_served, stops_early, stop_large}
 use Rattle.dd_serve.proofs.replay.serve_plan.Goals as goal
 
@@ -33,7 +33,7 @@ returns-in_default-clause-memory g c = λ t e.
 
 pub returns-in_default-clause-served : goal.returns-in_default-clause-served
 returns-in_default-clause-served g c = λ t u.
-    let print = g.F.Fingerprint.printed c.args.print.now in
+    let print = g.F.Fingerprint.printed c.args.print in
     let old : World = g.R.Rig.world c.args.rig.now in
     let new : World = g.R.Rig.world c.finish.new.rig in
     let before : Counts = g.R.Rig.counts c.args.rig.now in
@@ -43,21 +43,21 @@ returns-in_default-clause-served g c = λ t u.
     let world = c.in_default.ensures.early t in
     let said : SaysAlone (stop_text stop.Memory) before end old new = subst (λ (w : World). SaysAlone (stop_text stop.Memory) before end w new) world
     (subst (λ (k : Counts). SaysAlone (stop_text stop.Memory) k end (g.R.Rig.world c.serve_script.new.rig) new) counts (c.finish.ensures.said t)) in
-    let later = subst (λ (k : Counts). NeverFalls k end) counts c.finish.ensures.later in
+    let later = subst (λ (k : Counts). NeverFalls k end) counts c.finish.ensures.frame.0 in
     let idle = subst (λ (k : Counts). IsIdle k end) counts c.finish.ensures.idle in
     subst (λ (n : ℕ). Replays print c.args.plan (g.R.Rig.device_size c.args.rig.now Disk) n script old new before end) (sym c.finish.ensures.status)
-    (stops_alone print c.args.plan (g.R.Rig.device_size c.args.rig.now Disk) script old before stop.Memory old new before end (falls_self before) later idle (stops_early print c.args.plan (g.R.Rig.device_size c.args.rig.now Disk) script old before stop.Memory before (falls_self before) (asks_early (plan_sizes c.args.plan (g.R.Rig.device_size c.args.rig.now Disk)) before before (omega arith) (omega arith) (omega arith) (omega arith) (omega arith) (omega arith) (omega arith)) (λ e. absurd (cc)) (λ e. omega arith) (commands_some (blocks_of c.args.plan (g.R.Rig.device_size c.args.rig.now Disk)) script)) said)
+    (stops_alone print c.args.plan (g.R.Rig.device_size c.args.rig.now Disk) script old before stop.Memory old new before end (falls_self before) later idle (stops_early print c.args.plan (g.R.Rig.device_size c.args.rig.now Disk) script old before stop.Memory before (falls_self before) (asks_early (plan_sizes c.args.plan (g.R.Rig.device_size c.args.rig.now Disk)) before before (omega arith) (omega arith) (omega arith) (omega arith) (omega arith) (omega arith) (omega arith)) (λ e. absurd (cc)) (λ e. omega arith) (commands_some (replay_dialect c.args.plan (g.R.Rig.device_size c.args.rig.now Disk)) script)) said)
 
 pub returns-in-Ok-served-clause-served : goal.returns-in-Ok-served-clause-served
 returns-in-Ok-served-clause-served g c = λ t u.
-    let print = g.F.Fingerprint.printed c.args.print.now in
+    let print = g.F.Fingerprint.printed c.args.print in
     let old : World = g.R.Rig.world c.args.rig.now in
     let new : World = g.R.Rig.world c.serve_script.new.rig in
     let before : Counts = g.R.Rig.counts c.args.rig.now in
     let end : Counts = g.R.Rig.counts c.serve_script.new.rig in
     let script : List ℕ = g.S.Source.rest c.args.source.now in
     let faulted : Bool = c.in-Ok-served.faulted in
-    let served : AnsweredAll print (plan_sizes c.args.plan (g.R.Rig.device_size c.args.rig.now Disk)) (replay_start c.args.plan (g.R.Rig.device_size c.args.rig.now Disk) old) (replay_commands c.args.plan (g.R.Rig.device_size c.args.rig.now Disk) script) faulted old.said new.said before end = rw c.in-Ok-served.is at (c.in-Ok.ensures.all t u) in
+    let served : ReplaysAll print c.args.plan (g.R.Rig.device_size c.args.rig.now Disk) faulted script old new before end = rw c.in-Ok-served.is at (c.in-Ok.ensures.all t u) in
     let bounded : IsBounded c.args.plan (g.R.Rig.device_size c.args.rig.now Disk) script = rw c.in-Ok-served.is at (c.in-Ok.ensures.bounded u) in
     let all = serves_all print c.args.plan (g.R.Rig.device_size c.args.rig.now Disk) script old before faulted new end served bounded in
     let same = c.finish-in-Ok-served.ensures.silent refl in
@@ -66,7 +66,7 @@ returns-in-Ok-served-clause-served g c = λ t u.
 
 pub returns-in-Output-clause-served : goal.returns-in-Output-clause-served
 returns-in-Output-clause-served g c = λ t u.
-    let print = g.F.Fingerprint.printed c.args.print.now in
+    let print = g.F.Fingerprint.printed c.args.print in
     let old : World = g.R.Rig.world c.args.rig.now in
     let new : World = g.R.Rig.world c.serve_script.new.rig in
     let before : Counts = g.R.Rig.counts c.args.rig.now in
@@ -79,7 +79,7 @@ returns-in-Output-clause-served g c = λ t u.
 
 pub returns-in-Stopped-clause-served : goal.returns-in-Stopped-clause-served
 returns-in-Stopped-clause-served g c = λ t u.
-    let print = g.F.Fingerprint.printed c.args.print.now in
+    let print = g.F.Fingerprint.printed c.args.print in
     let old : World = g.R.Rig.world c.args.rig.now in
     let middle : World = g.R.Rig.world c.serve_script.new.rig in
     let new : World = g.R.Rig.world c.finish-in-Stopped.new.rig in
@@ -91,11 +91,11 @@ returns-in-Stopped-clause-served g c = λ t u.
     let why = c.in-Stopped.why in
     let P : Type 0 = g.S.Source.tells → IsBounded c.args.plan (g.R.Rig.device_size c.args.rig.now Disk) script → ⊥ in
     let Q : Type 0 = IsBounded c.args.plan (g.R.Rig.device_size c.args.rig.now Disk) script → ⊥ in
-    let halts : Halts F P (Stopped why) before between = rw c.in-Stopped.is at (rw c.in-Err.is at c.in-Ok.ensures.halt) in
-    let halted : Halts F Q (Stopped why) before between = halts_by F P F Q (λ f. f) (λ long. long u) (Stopped why) before between halts in
-    let served : AnsweredUpTo print (plan_sizes c.args.plan (g.R.Rig.device_size c.args.rig.now Disk)) (replay_start c.args.plan (g.R.Rig.device_size c.args.rig.now Disk) old) (replay_commands c.args.plan (g.R.Rig.device_size c.args.rig.now Disk) script) (Stopped why) old.said middle.said before between = rw c.in-Stopped.is at (rw c.in-Err.is at (c.in-Ok.ensures.some t u)) in
+    let halts : Halts IsFlash F P (Stopped why) before between = rw c.in-Stopped.is at (rw c.in-Err.is at c.in-Ok.ensures.halt) in
+    let halted : Halts IsFlash F Q (Stopped why) before between = halts_by IsFlash F P F Q (λ f. f) (λ long. long u) (Stopped why) before between halts in
+    let served : ReplaysUpTo print c.args.plan (g.R.Rig.device_size c.args.rig.now Disk) (Stopped why) script old middle before between = rw c.in-Stopped.is at (rw c.in-Err.is at (c.in-Ok.ensures.some t u)) in
     subst (λ (n : ℕ). Replays print c.args.plan (g.R.Rig.device_size c.args.rig.now Disk) n script old new before end) (sym c.finish-in-Stopped.ensures.status)
-    (stops_alone print c.args.plan (g.R.Rig.device_size c.args.rig.now Disk) script old before why middle new between end c.serve_script.ensures.later c.finish-in-Stopped.ensures.later c.finish-in-Stopped.ensures.idle
+    (stops_alone print c.args.plan (g.R.Rig.device_size c.args.rig.now Disk) script old before why middle new between end c.serve_script.ensures.later c.finish-in-Stopped.ensures.frame.0 c.finish-in-Stopped.ensures.idle
     (stops_served print c.args.plan (g.R.Rig.device_size c.args.rig.now Disk) script old before why F middle between served halted) (c.finish-in-Stopped.ensures.said t))
 
 pub returns-in-Stopped-clause-time : goal.returns-in-Stopped-clause-time

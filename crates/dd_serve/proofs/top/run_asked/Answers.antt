@@ -2,7 +2,7 @@ use Rattle.std.proofs.Common.{sym, subst}
 use Rattle.dd_rig.specs.World.{World}
 use Rattle.dd_serve.specs.declared.words.Asked.{Asked}
 use Rattle.dd_serve.specs.Run.{IsCaused, Leaves}
-use Rattle.dd_serve.specs.Saying.{SaysAlone}
+use Rattle.dd_loop.specs.Saying.{SaysAlone}
 use Rattle.dd_serve.proofs.Running.{format_caused}
 use Rattle.dd_serve.proofs.top.run_asked.Goals as goal
 

@@ -29,7 +29,7 @@ touch-cut-requires-clause-used g c =
     (drop_used lists c.self.inside.slots (g.met.L.Lists.kept c.self.inside.lists) fits c.args.address c.in_ok-kind.given c.in_ok-kind.ensures.given)
 
 pub returns-clause-answer : goal.returns-clause-answer
-returns-clause-answer g c = λ t.
+returns-clause-answer g c = λ t was_sound.
     let printed = g.F.Fingerprint.printed c.args.print.now in
     let lists : Listing = g.L.Lists.listing c.self.inside.lists in
     let scratch : ScratchView = scratch_of c.self.inside.blocks lists c.self.inside.slots c.self.inside.count in
@@ -38,14 +38,14 @@ returns-clause-answer g c = λ t.
     let new : World = g.R.Rig.world c.locate.new.rig in
     let clean : AreClean lists.table.a = subst (λ (k : ScratchView). AreClean k.lists.table.a) (sym same) c.requires.fits.clean in
     let below : c.args.address < scratch.blocks = subst (λ (k : ScratchView). c.args.address < k.blocks) (sym same) c.requires.address in
-    let sound : IsSound printed scratch old = subst (λ (k : ScratchView). IsSound printed k old) (sym same) (c.requires.sound t) in
+    let sound : IsSound printed scratch old = subst (λ (k : ScratchView). IsSound printed k old) (sym same) was_sound in
     let l : Located printed scratch old new c.args.address c.locate.new.block c.in_ok-kind.kind c.in_ok-kind.given = c.in_ok-kind.ensures.located t scratch.blocks scratch.count below sound in
     subst (λ (k : ScratchView). Tells printed (record { kind = c.in_ok-kind.kind; cut = c.touch-cut.result }) (read_answer (scratch_sizes k) (scratch_state k old) c.args.address)) same
     (subst (λ (cut : Cut). Tells printed (record { kind = c.in_ok-kind.kind; cut = cut }) (read_answer (scratch_sizes scratch) (scratch_state scratch old) c.args.address)) (sym c.touch-cut.ensures.cut)
     (read_tells printed scratch old new c.args.address c.locate.new.block c.in_ok-kind.kind c.in_ok-kind.given (g.met.L.Lists.kept c.self.inside.lists) clean below l))
 
 pub returns-clause-block : goal.returns-clause-block
-returns-clause-block g c = λ t.
+returns-clause-block g c = λ t was_sound.
     let printed = g.F.Fingerprint.printed c.args.print.now in
     let lists : Listing = g.L.Lists.listing c.self.inside.lists in
     let scratch : ScratchView = scratch_of c.self.inside.blocks lists c.self.inside.slots c.self.inside.count in
@@ -53,12 +53,12 @@ returns-clause-block g c = λ t.
     let old : World = g.R.Rig.world c.args.rig.now in
     let new : World = g.R.Rig.world c.locate.new.rig in
     let below : c.args.address < scratch.blocks = subst (λ (k : ScratchView). c.args.address < k.blocks) (sym same) c.requires.address in
-    let sound : IsSound printed scratch old = subst (λ (k : ScratchView). IsSound printed k old) (sym same) (c.requires.sound t) in
+    let sound : IsSound printed scratch old = subst (λ (k : ScratchView). IsSound printed k old) (sym same) was_sound in
     let l : Located printed scratch old new c.args.address c.locate.new.block c.in_ok-kind.kind c.in_ok-kind.given = c.in_ok-kind.ensures.located t scratch.blocks scratch.count below sound in
     l.block_is ∙ ap (λ (k : ScratchView). content (scratch_state k old).array c.args.address) same
 
 pub returns-clause-state : goal.returns-clause-state
-returns-clause-state g c = λ t.
+returns-clause-state g c = λ t was_sound.
     let printed = g.F.Fingerprint.printed c.args.print.now in
     let lists : Listing = g.L.Lists.listing c.self.inside.lists in
     let scratch : ScratchView = scratch_of c.self.inside.blocks lists c.self.inside.slots c.self.inside.count in
@@ -67,7 +67,7 @@ returns-clause-state g c = λ t.
     let new : World = g.R.Rig.world c.locate.new.rig in
     let clean : AreClean lists.table.a = subst (λ (k : ScratchView). AreClean k.lists.table.a) (sym same) c.requires.fits.clean in
     let below : c.args.address < scratch.blocks = subst (λ (k : ScratchView). c.args.address < k.blocks) (sym same) c.requires.address in
-    let sound : IsSound printed scratch old = subst (λ (k : ScratchView). IsSound printed k old) (sym same) (c.requires.sound t) in
+    let sound : IsSound printed scratch old = subst (λ (k : ScratchView). IsSound printed k old) (sym same) was_sound in
     let l : Located printed scratch old new c.args.address c.locate.new.block c.in_ok-kind.kind c.in_ok-kind.given = c.in_ok-kind.ensures.located t scratch.blocks scratch.count below sound in
     let cut : Option BRow = (cut_of (read_of c.args.address c.in_ok-kind.given lists) lists).drop in
     let slots : c.touch-cut.new.slots ≡ slots_after cut (placed c.in_ok-kind.given scratch.slots) = c.touch-cut.ensures.slots ∙ ap (slots_after cut) c.in_ok-kind.ensures.slots in
@@ -79,7 +79,7 @@ returns-clause-state g c = λ t.
     ∙ ap (λ (k : ScratchView). reference (scratch_sizes k) (scratch_state k old) c.args.address (content (scratch_state k old).array c.args.address)) same
 
 pub returns-clause-sound : goal.returns-clause-sound
-returns-clause-sound g c = λ t.
+returns-clause-sound g c = λ t was_sound.
     let printed = g.F.Fingerprint.printed c.args.print.now in
     let lists : Listing = g.L.Lists.listing c.self.inside.lists in
     let scratch : ScratchView = scratch_of c.self.inside.blocks lists c.self.inside.slots c.self.inside.count in
@@ -88,7 +88,7 @@ returns-clause-sound g c = λ t.
     let new : World = g.R.Rig.world c.locate.new.rig in
     let clean : AreClean lists.table.a = subst (λ (k : ScratchView). AreClean k.lists.table.a) (sym same) c.requires.fits.clean in
     let below : c.args.address < scratch.blocks = subst (λ (k : ScratchView). c.args.address < k.blocks) (sym same) c.requires.address in
-    let sound : IsSound printed scratch old = subst (λ (k : ScratchView). IsSound printed k old) (sym same) (c.requires.sound t) in
+    let sound : IsSound printed scratch old = subst (λ (k : ScratchView). IsSound printed k old) (sym same) was_sound in
     let l : Located printed scratch old new c.args.address c.locate.new.block c.in_ok-kind.kind c.in_ok-kind.given = c.in_ok-kind.ensures.located t scratch.blocks scratch.count below sound in
     let cut : Option BRow = (cut_of (read_of c.args.address c.in_ok-kind.given lists) lists).drop in
     let slots : c.touch-cut.new.slots ≡ slots_after cut (placed c.in_ok-kind.given scratch.slots) = c.touch-cut.ensures.slots ∙ ap (slots_after cut) c.in_ok-kind.ensures.slots in
@@ -115,7 +115,7 @@ returns-clause-fits g c =
     (read_fits scratch (size c.args.rig.now) c.args.address c.in_ok-kind.given (g.met.L.Lists.kept c.self.inside.lists) c.in_ok-kind.ensures.given fits))
 
 pub returns-clause-asks_for : goal.returns-clause-asks_for
-returns-clause-asks_for g c = λ t.
+returns-clause-asks_for g c = λ t was_sound.
     let printed = g.F.Fingerprint.printed c.args.print.now in
     let lists : Listing = g.L.Lists.listing c.self.inside.lists in
     let scratch : ScratchView = scratch_of c.self.inside.blocks lists c.self.inside.slots c.self.inside.count in
@@ -125,7 +125,7 @@ returns-clause-asks_for g c = λ t.
     let kind = c.in_ok-kind.kind in
     let clean : AreClean lists.table.a = subst (λ (k : ScratchView). AreClean k.lists.table.a) (sym same) c.requires.fits.clean in
     let below : c.args.address < scratch.blocks = subst (λ (k : ScratchView). c.args.address < k.blocks) (sym same) c.requires.address in
-    let sound : IsSound printed scratch old = subst (λ (k : ScratchView). IsSound printed k old) (sym same) (c.requires.sound t) in
+    let sound : IsSound printed scratch old = subst (λ (k : ScratchView). IsSound printed k old) (sym same) was_sound in
     let l : Located printed scratch old new c.args.address c.locate.new.block kind c.in_ok-kind.given = c.in_ok-kind.ensures.located t scratch.blocks scratch.count below sound in
     let slots = read_slots printed scratch old new c.args.address c.locate.new.block kind c.in_ok-kind.given (g.met.L.Lists.kept c.self.inside.lists) clean below l c.in_ok-kind.ensures.given in
     let before = g.R.Rig.counts c.args.rig.now in
