@@ -89,13 +89,13 @@ memory_status long (Stopped stop.Length) a b m n h e = absurd (omega (arith, e))
 memory_status long (Stopped stop.Memory) a b m n h e = refl
 memory_status long Unheard a b m n h e = absurd (omega (arith, e))
 
--- and it is never 3
-pub opened_status : (long : Type 0) (ending : Ending) (a b : Counts) (m n : ℕ) → Caused ⊥ long ending a b m n → status_of ending ≢ 3
-opened_status long (Served false) a b m n h = λ e. omega (arith, e)
-opened_status long (Served true) a b m n h = λ e. omega (arith, e)
+-- and it is neither 2 nor 3
+pub opened_status : (long : Type 0) (ending : Ending) (a b : Counts) (m n : ℕ) → Caused ⊥ long ending a b m n → (status_of ending ≢ 2) × (status_of ending ≢ 3)
+opened_status long (Served false) a b m n h = ((λ e. omega (arith, e)), λ e. omega (arith, e))
+opened_status long (Served true) a b m n h = ((λ e. omega (arith, e)), λ e. omega (arith, e))
 opened_status long (Refused why) a b m n h = absurd h
-opened_status long (Stopped why) a b m n h = λ e. omega (arith, e, stopped_four why)
-opened_status long Unheard a b m n h = λ e. omega (arith, e)
+opened_status long (Stopped why) a b m n h = ((λ e. omega (arith, e, stopped_four why)), λ e. omega (arith, e, stopped_four why))
+opened_status long Unheard a b m n h = ((λ e. omega (arith, e)), λ e. omega (arith, e))
 
 still_all : (a b c : ℕ) → b ≤ c → IsStill a c → Rose a b → ⊥
 still_all a b c le still rose = omega (arith, le, still.0, still.1, rose)
@@ -179,6 +179,14 @@ fault_status (open_fault.Snapshot region at) = inl refl
 fault_status (open_fault.Group region at) = inl refl
 fault_status (open_fault.Worn value) = inl refl
 fault_status open_fault.Version1 = inl refl
+
+pub fault_asked : (fault : OpenFault) → status_of (ending_of fault) ≢ 2
+fault_asked fault = unserved_asked (fault_status fault)
+  where
+    unserved_asked : {status : ℕ} → IsUnserved status → status ≢ 2
+    unserved_asked (inl e) = λ two. omega (arith, e, two)
+    unserved_asked (inr (inl e)) = λ two. omega (arith, e, two)
+    unserved_asked (inr (inr e)) = λ two. omega (arith, e, two)
 
 -- a refusal is of the first fault
 pub refuses_first : {F : Type 0} (print : F) (fault : OpenFault) (size : Dev → ℕ) (flash : List ℕ) → TellsOpening {T = StoreOf F} (Err fault) size flash → status_of (ending_of fault) ≡ 3 → IsFirstFault size flash fault × (why : Refusal) × (ending_of fault ≡ Refused why)

@@ -57,6 +57,7 @@ pub fn serve<F: Fingerprint, L: Lists, R: Rig, S: Source>(
     ensures untaken { (result ≡ 3) ⊎ (result ≡ 4) → (source.new ≡ source.old) × Makes (up_to 4 1 0) (up_to 0 1 0) (R.counts rig.old) (R.counts rig.new) }
 
     // how it ends
+    ensures asked { result ≢ 2 }
     ensures quiet { R.tells → S.tells → (from : Begins (F.printed print) (R.world rig.old))
         → IsQuiet (R.counts rig.old) (R.counts rig.new) → IsStill (S.failures source.old) (S.failures source.new) → IsBounded (sizes_from from) (S.rest source.old) → (result ≡ 0) ⊎ (result ≡ 4) }
     ensures caused { IsCaused (source.new ≡ source.old) ((sizes : Sizes) × (S.tells → IsBounded sizes (S.rest source.old) → ⊥)) result (R.counts rig.old) (R.counts rig.new) (S.failures source.old) (S.failures source.new) }
@@ -93,7 +94,7 @@ fn end_store<F: Fingerprint, L: Lists, R: Rig, S: Source>(
     ensures caused { IsCaused ⊥ (S.tells → IsBounded (sizes_of store.store.journal.geo) (S.rest source.old) → ⊥) result (R.counts rig.old) (R.counts rig.new) (S.failures source.old) (S.failures source.new) }
     ensures taken { S.tells → result ≤ 1 → IsTakenTo (dialect_of (sizes_of store.store.journal.geo)) (S.rest source.old) (S.rest source.new) }
     ensures untaken { result ≡ 4 → (source.new ≡ source.old) × IsIdle (R.counts rig.old) (R.counts rig.new) }
-    ensures opened { result ≢ 3 }
+    ensures opened { (result ≢ 2) × (result ≢ 3) }
     ensures frame { Frame (R.counts rig.old) (R.counts rig.new) (R.device_size rig.old) (R.device_size rig.new) }
 {
     let ending = serve_store(alloc, store, source, rig);

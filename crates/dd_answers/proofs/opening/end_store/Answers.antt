@@ -1,4 +1,4 @@
-use Rattle.std.proofs.Common.{◌≡◌, ◌⊎◌, ℕ, ◌≤◌, Bool, List, subst, sym, ◌∙◌}
+use Rattle.std.proofs.Common.{◌≡◌, ◌≢◌, ◌⊎◌, ℕ, ◌≤◌, Bool, List, subst, sym, ◌∙◌}
 use Rattle.dd_block.specs.declared.print.Fp.{Fp}
 use Rattle.dd_rig.specs.Clock.{Elapses}
 use Rattle.dd_rig.specs.World.{World}
@@ -77,7 +77,8 @@ returns-clause-untaken g c = λ four.
     (same.0, subst (λ r. IsIdle (g.R.Rig.counts r) (g.R.Rig.counts c.finish.new.rig)) same.1 c.finish.ensures.idle)
 
 pub returns-clause-opened : goal.returns-clause-opened
-returns-clause-opened g c = λ three.
+returns-clause-opened g c =
     let long : Type 0 = g.S.Source.tells → IsBounded (sizes_of c.args.store.store.journal.geo) (g.S.Source.rest c.args.source.now) → ⊥ in
-    opened_status long c.serve_store-ending.result (g.R.Rig.counts c.args.rig.now) (g.R.Rig.counts c.serve_store-ending.new.rig) (g.S.Source.failures c.args.source.now) (g.S.Source.failures c.serve_store-ending.new.source)
-    c.serve_store-ending.ensures.caused (sym c.finish.ensures.status ∙ three)
+    subst (λ (status : ℕ). (status ≢ 2) × (status ≢ 3)) (sym c.finish.ensures.status)
+    (opened_status long c.serve_store-ending.result (g.R.Rig.counts c.args.rig.now) (g.R.Rig.counts c.serve_store-ending.new.rig) (g.S.Source.failures c.args.source.now) (g.S.Source.failures c.serve_store-ending.new.source)
+    c.serve_store-ending.ensures.caused)

@@ -1,4 +1,4 @@
-use Rattle.std.proofs.Common.{◌≡◌, ◌⊎◌, inl, inr, ℕ, ◌≤◌, List, refl, sym, ◌∙◌, ap, subst}
+use Rattle.std.proofs.Common.{◌≡◌, ◌≢◌, ◌⊎◌, inl, inr, ℕ, ◌≤◌, List, refl, sym, ◌∙◌, ap, subst}
 use Rattle.dd_block.specs.declared.print.Fp.{Fp}
 use Rattle.dd_block.specs.declared.geometry.Geometry.{Geometry}
 use Rattle.dd_rig.specs.Clock.{Elapses}
@@ -16,7 +16,7 @@ use Rattle.dd_loop.specs.Ending.{ending_line, status_of, SaysLast, WithinLast}
 use Rattle.dd_answers.specs.Headline.{Headline}
 use Rattle.dd_answers.specs.Opening.{ending_of}
 use Rattle.dd_answers.specs.Serving.{IsBounded, Serves}
-use Rattle.dd_answers.proofs.Ended.{Stops, stops, quiet_fault, refuses_first, unopened_within, unopened_behind, serves_unopened, by_three, caused_since, quiet_behind, refuses_so, serves_since}
+use Rattle.dd_answers.proofs.Ended.{Stops, stops, quiet_fault, refuses_first, unopened_within, unopened_behind, serves_unopened, by_three, caused_since, fault_asked, quiet_behind, refuses_so, serves_since}
 use Rattle.dd_answers.proofs.opening.serve.Goals as goal
 
 pub returns-in-Err-clause-crash : goal.returns-in-Err-clause-crash
@@ -123,3 +123,6 @@ returns-in-Ok-clause-caused g c =
 
 pub returns-in-Ok-clause-unopened : goal.returns-in-Ok-clause-unopened
 returns-in-Ok-clause-unopened g c = λ t fault first. absurd (c.in-Ok.ensures.fault t fault first)
+
+pub returns-in-Err-clause-asked : goal.returns-in-Err-clause-asked
+returns-in-Err-clause-asked g c = subst (λ (status : ℕ). status ≢ 2) (sym (c.finish.ensures.status ∙ ap status_of c.ending_of-ending.ensures)) (fault_asked c.in-Err.fault)
