@@ -1,13 +1,13 @@
 -- Words ask for one thing.
 use Rattle.std.specs.Prelude.{Option, if◌then◌else◌, codes, get_or}
 use Rattle.std.specs.Str.{bytes_eq}
-use Rattle.std.proofs.Common.{◌≡◌, ℕ, List, [], ◌∷◌, length, refl, Some, None, ap, arith}
+use Rattle.std.proofs.Common.{◌≡◌, ◌≢◌, ℕ, true, false, List, [], ◌∷◌, length, refl, Some, None, ap, arith}
 use Rattle.dd_block.specs.declared.geometry.Geometry.{Geometry}
 use Rattle.dd_block.proofs.Geometries.{same_geometry}
 use Rattle.dd_serve.specs.declared.words.Plan.{Plan}
 use Rattle.dd_serve.specs.declared.words.Asked.{Asked}
 use Rattle.dd_serve.specs.declared.words.Asked.TheVariants.{Replay, Format}
-use Rattle.dd_serve.specs.Words.{plan_of, plan_of_numbers, AsksFor, AsksFormat, AsksNoFormat, IsReplay}
+use Rattle.dd_serve.specs.Words.{is_serve, plan_of, plan_of_numbers, AsksFor, AsksFormat, AsksNoFormat, IsReplay}
 
 -- a replay has four words
 four_words : (words : List (List ℕ)) (plan : Plan) → plan_of words ≡ Some plan → length words ≡ 4
@@ -58,3 +58,25 @@ plan_words (a ∷ b ∷ d ∷ f ∷ g ∷ words) e = absurd (omega (arith, e))
 pub asks_nothing : (words : List (List ℕ)) → plan_of words ≡ None → AsksNoFormat words → (asked : Asked) → AsksFor words asked → ⊥
 asks_nothing words none no_format (Replay p) h = absurd (cc)
 asks_nothing words none no_format (Format g) h = no_format g h
+
+-- what one word asks for
+pub one_word : (words : List (List ℕ)) → length words ≡ 1 → is_serve words ≡ bytes_eq (get_or words 0 []) (codes "serve")
+one_word [] e = absurd (omega (arith, e))
+one_word (a ∷ []) e = refl
+one_word (a ∷ b ∷ words) e = absurd (omega (arith, e))
+
+pub other_words : (words : List (List ℕ)) → length words ≢ 1 → is_serve words ≡ false
+other_words [] e = refl
+other_words (a ∷ []) e = absurd (e refl)
+other_words (a ∷ b ∷ words) e = refl
+
+-- `serve` is one word
+one_of : (words : List (List ℕ)) → is_serve words ≡ true → length words ≡ 1
+one_of [] e = absurd (cc)
+one_of (a ∷ []) e = refl
+one_of (a ∷ b ∷ words) e = absurd (cc)
+
+-- words that ask to serve ask for nothing else
+pub serves_alone : (words : List (List ℕ)) → is_serve words ≡ true → (asked : Asked) → AsksFor words asked → ⊥
+serves_alone words e (Replay plan) h = omega (arith, one_of words e, four_words words plan h)
+serves_alone words e (Format geo) h = omega (arith, one_of words e, h.eight)

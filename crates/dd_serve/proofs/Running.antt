@@ -18,11 +18,11 @@ use Rattle.dd_serve.specs.Formats.{IsFormatStatus}
 use Rattle.dd_serve.specs.Refusing.{Refuses, StopsAtDevice, refusal_for}
 use Rattle.dd_serve.specs.Run.{RefusesWords, IsStatus, IsCaused, IsRefused, Shows, EndsWell}
 use Rattle.dd_loop.specs.Saying.{IsIdle, SaysAlone}
-use Rattle.dd_serve.specs.Words.{AsksFor}
+use Rattle.dd_serve.specs.Words.{AsksFor, AsksNothing, AsksToServe}
 use Rattle.dd_serve.proofs.Quiet.{quiet_status, quiet_format, replay_failed}
 
 -- words that ask for nothing
-pub words_refused : (words : List (List ℕ)) (status : ℕ) (tells untaken : Type 0) (before after : Counts) (old new : World) → ((asked : Asked) → AsksFor words asked → ⊥) → status ≡ 2
+pub words_refused : (words : List (List ℕ)) (status : ℕ) (tells untaken : Type 0) (before after : Counts) (old new : World) → AsksNothing words → status ≡ 2
     → (tells → SaysAlone (refusal_text Words) before after old new) → IsIdle before after → (tells → (new.flash ≡ old.flash) × (new.disk ≡ old.disk)) → untaken
     → RefusesWords words status tells untaken before after old new
 words_refused words status tells untaken before after old new none is says idle devices taken = record {
@@ -40,13 +40,23 @@ not_two (Format geo) status (inr (inl e)) = λ two. omega (arith, e, two)
 not_two (Format geo) status (inr (inr (inl e))) = λ two. omega (arith, e, two)
 not_two (Format geo) status (inr (inr (inr e))) = λ two. omega (arith, e, two)
 
+-- words that ask to serve
+pub words_serve : (words : List (List ℕ)) (status : ℕ) (tells untaken : Type 0) (before after : Counts) (old new : World) → AsksToServe words → status ≢ 2 → RefusesWords words status tells untaken before after old new
+words_serve words status tells untaken before after old new asks not = record {
+  exactly = (λ e. absurd (not e), λ none. absurd (none.1 asks));
+  says = λ t e. absurd (not e);
+  idle = λ e. absurd (not e);
+  devices = λ t e. absurd (not e);
+  taken = λ e. absurd (not e);
+}
+
 -- words that ask for something
 pub words_asked : (words : List (List ℕ)) (asked : Asked) (status : ℕ) (tells untaken : Type 0) (Says : List ℕ → Type 0) (before after : Counts) (old new : World) (m n : ℕ) → AsksFor words asked
     → IsCaused asked status Says before after m n → RefusesWords words status tells untaken before after old new
 words_asked words asked status tells untaken Says before after old new m n asks caused =
     let not = not_two asked status caused.is_status in
     record {
-      exactly = (λ e. absurd (not e), λ none. absurd (none asked asks));
+      exactly = (λ e. absurd (not e), λ none. absurd (none.0 asked asks));
       says = λ t e. absurd (not e);
       idle = λ e. absurd (not e);
       devices = λ t e. absurd (not e);
