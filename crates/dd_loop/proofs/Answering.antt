@@ -1,5 +1,5 @@
 -- One line, from the call of the cache to the emit of its reply.
-use Rattle.std.proofs.Common.{◌≡◌, inl, inr, ℕ, Bool, true, false, List, [], ◌∷◌, ◌++◌, take, refl, sym, ◌∙◌, ap, subst, Some, None}
+use Rattle.std.proofs.Common.{◌≡◌, inl, inr, ℕ, List, [], ◌∷◌, ◌++◌, take, refl, ◌∙◌, ap, subst, Some, None}
 use Rattle.std.specs.Prelude.{Option}
 use Rattle.dd_block.specs.declared.print.Fp.{Fp}
 use Rattle.dd_rig.specs.Device.{IsImage}
@@ -8,7 +8,6 @@ use Rattle.dd_rig.specs.Clock.{Clock, Elapses}
 use Rattle.dd_rig.proofs.Moments.{goes_on, widens}
 use Rattle.dd_model.specs.State.{Sizes, State}
 use Rattle.dd_script.specs.Command.{Command}
-use Rattle.dd_script.specs.Text.{ended}
 use Rattle.dd_loop.specs.declared.cache.Written.{Written}
 use Rattle.dd_loop.specs.declared.halt.Halt.{Halt}
 use Rattle.dd_loop.specs.declared.halt.Halt.TheVariants.{Stopped, Output}

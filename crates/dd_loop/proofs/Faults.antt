@@ -1,12 +1,12 @@
 -- How many lines say that a read failed, and what lines cost.
-use Rattle.std.proofs.Common.{◌≡◌, ℕ, ◌+◌, ◌≤◌, ◌<◌, Bool, true, false, List, [], ◌∷◌, ◌++◌, sym, ap, subst, arith, if◌then◌else◌}
+use Rattle.std.proofs.Common.{◌≡◌, ℕ, ◌+◌, Bool, true, false, List, [], ◌∷◌, ◌++◌, arith, if◌then◌else◌}
 use Rattle.std.specs.Prelude.{◌||◌}
 use Rattle.std.specs.Str.{bytes_eq}
 use Rattle.std.proofs.lemmas.List.Sums.{sum_by-append}
 use Rattle.dd_rig.specs.declared.device.Dev.{Dev}
 use Rattle.dd_rig.specs.declared.device.Dev.TheVariants as dev
 use Rattle.dd_rig.specs.declared.tallies.Counts.{Counts}
-use Rattle.dd_rig.specs.Counts.{plus, NeverFalls}
+use Rattle.dd_rig.specs.Counts.{NeverFalls}
 use Rattle.dd_script.specs.Answers.{faults_in}
 use Rattle.dd_script.specs.Text.{fault_text}
 use Rattle.dd_loop.specs.Answering.{CountsFaults, HasFault}

@@ -1,5 +1,5 @@
 -- A cache over any script holds some state.
-use Rattle.std.proofs.Common.{◌≡◌, inl, inr, ⊎_elim, ℕ, Bool, List, [], ◌∷◌, Some, None}
+use Rattle.std.proofs.Common.{inl, inr, ℕ, Bool, List, Some, None}
 use Rattle.std.specs.Prelude.{Option}
 use Rattle.dd_block.specs.declared.print.Fp.{Fp}
 use Rattle.dd_rig.specs.Clock.{Clock, Elapses}

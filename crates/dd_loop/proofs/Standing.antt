@@ -10,7 +10,7 @@ use Rattle.dd_model.specs.State.{Sizes, State}
 use Rattle.dd_script.specs.Command.{Command, quit, after, after_all}
 use Rattle.dd_script.specs.Reading.{fronted, quits}
 use Rattle.dd_script.specs.Output.{reply_line, output_of}
-use Rattle.dd_script.specs.Script.{Lines, lines_of, is_quit}
+use Rattle.dd_script.specs.Script.{Lines, lines_of}
 use Rattle.dd_script.specs.Text.{HasNoEnd, ended}
 use Rattle.dd_script.specs.Answers.{answered_one, answered_by, acknowledged_by, acknowledged_in, AnswersOne, Answered, MayCome, IsPart, Tell}
 use Rattle.dd_script.proofs.Lines.{lines_of-lines}
@@ -18,7 +18,7 @@ use Rattle.dd_script.proofs.LineWords.{after_reply}
 use Rattle.dd_script.proofs.Taking.{after_all-append, answered_by-snoc, left-snoc, count_after, acknowledged-snoc, answered-snoc, tell-part}
 use Rattle.dd_loop.specs.declared.halt.Halt.{Halt}
 use Rattle.dd_loop.specs.declared.halt.Halt.TheVariants.{Stopped, Output}
-use Rattle.dd_loop.specs.Answering.{HasFault, Replied, AnswersLine, Saying, WithinLine, CutsLine}
+use Rattle.dd_loop.specs.Answering.{HasFault, Replied, AnswersLine, WithinLine, CutsLine}
 use Rattle.dd_loop.specs.Serving.{Sofar, ServedAll, ServedUpTo}
 use Rattle.dd_loop.specs.Standing.{StandForEither, AllStand, AllStandForEither, Stood, StandForPrefix}
 use Rattle.dd_loop.proofs.Faults.{fault_snoc, fault_same}

@@ -1,5 +1,4 @@
 -- Why a run ends before its script: which count rose.
-use Rattle.std.specs.Prelude.{◌≡◌}
 use Rattle.dd_rig.specs.declared.device.Dev.{Dev}
 use Rattle.dd_rig.specs.declared.device.Dev.TheVariants as dev
 use Rattle.dd_rig.specs.declared.tallies.Counts.{Counts}

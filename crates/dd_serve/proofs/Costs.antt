@@ -1,5 +1,5 @@
 -- How often the devices were asked for lines.
-use Rattle.std.proofs.Common.{◌≡◌, ℕ, ◌+◌, ◌*◌, ◌≤◌, Bool, true, false, cond, not, List, [], ◌∷◌, ◌++◌, refl, sym, ◌∙◌, ap, subst, arith, if◌then◌else◌}
+use Rattle.std.proofs.Common.{◌≡◌, ℕ, ◌+◌, ◌*◌, Bool, true, false, cond, not, List, [], ◌∷◌, ◌++◌, refl, sym, ◌∙◌, ap, subst, arith, if◌then◌else◌}
 use Rattle.std.specs.Prelude.{Option}
 use Rattle.dd_block.specs.declared.print.Fp.{Fp}
 use Rattle.dd_rig.specs.declared.device.Dev.{Dev}
@@ -8,16 +8,15 @@ use Rattle.dd_rig.specs.declared.tallies.Counts.{Counts}
 use Rattle.dd_rig.specs.Counts.{up_to}
 use Rattle.dd_model.specs.declared.kind.Kind.{Kind}
 use Rattle.dd_model.specs.declared.kind.Kind.TheVariants.{Hit, Join, Miss, Dup, New}
-use Rattle.dd_model.specs.State.{Sizes, State, content, is_zero_block}
+use Rattle.dd_model.specs.State.{Sizes, is_zero_block}
 use Rattle.dd_script.specs.declared.line.BadKind.{BadKind}
 use Rattle.dd_script.specs.declared.line.BadKind.TheVariants as bad_is
 use Rattle.dd_script.specs.declared.reply.Stop.{Stop}
 use Rattle.dd_script.specs.declared.reply.Stop.TheVariants as stop
 use Rattle.dd_script.specs.Text.{read_text, bye_text, bad_text, fault_text, stop_text}
-use Rattle.dd_script.specs.Answers.{faults_in}
 use Rattle.dd_serve.specs.Laws.{hits_both, looks_both, misses_both}
 use Rattle.dd_serve.proofs.ZeroTexts.{zeros_told}
-use Rattle.dd_serve.specs.Calls.{Asks, AsksFor, AsksForLine, AsksForLines, is_hit, is_load, is_miss, hits_in, loads_in, misses_in, looks_in, slots_for, looks_for, writes_for}
+use Rattle.dd_serve.specs.Calls.{Asks, AsksFor, AsksForLine, AsksForLines, hits_in, misses_in, looks_in, slots_for, looks_for, writes_for}
 
 -- what a line says of itself
 record Tells (line : List ℕ) (h q m : ℕ) : Type 0 where

@@ -9,7 +9,7 @@ use Rattle.dd_block.specs.declared.print.Fp.{Fp}
 use Rattle.dd_rig.specs.declared.device.Dev.{Dev}
 use Rattle.dd_rig.specs.declared.device.Dev.TheVariants as dev
 use Rattle.dd_rig.specs.declared.tallies.Counts.{Counts}
-use Rattle.dd_rig.specs.Counts.{Rose, NeverFalls, IsStill, plus}
+use Rattle.dd_rig.specs.Counts.{Rose, NeverFalls, IsStill}
 use Rattle.dd_rig.specs.World.{World}
 use Rattle.dd_model.specs.State.{Sizes, State}
 use Rattle.dd_script.specs.declared.reply.Stop.{Stop}

@@ -1,10 +1,9 @@
 -- What a crash within a replay leaves.
-use Rattle.std.proofs.Common.{◌≡◌, inl, ℕ, ◌<◌, ◌≤◌, Bool, true, false, cond, List, [], ◌∷◌, sym, ◌∙◌, subst, ap, arith, refl}
-use Rattle.std.specs.Prelude.{filter, nat_lt, slice_index}
+use Rattle.std.proofs.Common.{◌≡◌, inl, ℕ, ◌<◌, ◌≤◌, List, ◌∷◌, subst, arith}
 use Rattle.dd_rig.specs.declared.device.Dev.TheVariants.{Flash}
 use Rattle.dd_rig.specs.Clock.{Clock, Elapses, AddsNone}
-use Rattle.dd_rig.specs.Device.{IsOutside, IsImage}
-use Rattle.dd_rig.specs.World.{World, Outcome, WithinWrite, WithinEmit}
+use Rattle.dd_rig.specs.Device.{IsOutside}
+use Rattle.dd_rig.specs.World.{World, WithinWrite}
 use Rattle.dd_rig.proofs.Moments.{widens, goes_on}
 use Rattle.dd_rig.specs.World.{IsOwn}
 use Rattle.dd_model.specs.State.{State}

@@ -1,6 +1,6 @@
 -- The line that answers a read, and the state behind it.
-use Rattle.std.proofs.Common.{◌≡◌, inr, ℕ, ◌+◌, ◌<◌, ◌≤◌, ◌^◌, Bool, true, false, List, [], ◌∷◌, refl, sym, ◌∙◌, ap, subst, arith, Some, None, Ok, Err, IfOk}
-use Rattle.std.specs.Prelude.{Option, Result, option_map, IfSome, IfErr, OnOk}
+use Rattle.std.proofs.Common.{◌≡◌, inr, ℕ, ◌<◌, ◌≤◌, ◌^◌, true, false, List, [], ◌∷◌, refl, sym, ◌∙◌, ap, subst, arith, Some, None, Ok, Err}
+use Rattle.std.specs.Prelude.{Option, Result, option_map, IfSome, IfErr}
 use Rattle.dd_block.specs.declared.print.Fp.{Fp}
 use Rattle.dd_rig.specs.declared.device.Dev.{Dev}
 use Rattle.dd_rig.specs.declared.tallies.Counts.{Counts}
@@ -22,13 +22,13 @@ use Rattle.dd_script.specs.declared.line.Line.{Line}
 use Rattle.dd_script.proofs.LineWords.{read_acks, fault_acks, bad_acks, no_acks, fault_no_end, bye_acks, after_reply, after_fault}
 use Rattle.dd_loop.specs.declared.cache.Written.{Written}
 use Rattle.dd_loop.specs.declared.halt.Halt.{Halt}
-use Rattle.dd_loop.specs.Answering.{CountsFaults, HasFault, Pays, GoesOnWith, WritesLine, WritesAnswer}
+use Rattle.dd_loop.specs.Answering.{HasFault, Pays, GoesOnWith, WritesLine, WritesAnswer}
 use Rattle.dd_loop.specs.Standing.{AllStandForEither}
 use Rattle.dd_loop.proofs.FaultLines.{reply_has_none, fault_has, fault_counts, reply_counts}
-use Rattle.dd_serve.specs.Answering.{MayAnswer, HoldsState, StaysBy, CostsLines}
-use Rattle.dd_serve.specs.Calls.{AsksFor, AsksForLine, AsksForLines, slots_for, looks_for, writes_for}
+use Rattle.dd_serve.specs.Answering.{HoldsState, StaysBy, CostsLines}
+use Rattle.dd_serve.specs.Calls.{AsksFor, AsksForLine, slots_for, looks_for, writes_for}
 use Rattle.dd_serve.specs.Laws.{keeps_images}
-use Rattle.dd_serve.specs.Scratch.{ScratchView, Fits, IsSound, Scratched, scratch_sizes, scratch_state}
+use Rattle.dd_serve.specs.Scratch.{ScratchView, IsSound, Scratched, scratch_sizes, scratch_state}
 use Rattle.dd_serve.proofs.Costs.{line_asks, begun_asks, asks_read, asks_fault, asks_bye, asks_bad}
 use Rattle.std.proofs.Common.{inl}
 

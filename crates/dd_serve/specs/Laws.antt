@@ -9,7 +9,6 @@ use Rattle.dd_rig.specs.declared.device.Dev.{Dev}
 use Rattle.dd_rig.specs.declared.device.Dev.TheVariants as dev
 use Rattle.dd_rig.specs.declared.tallies.Calls.{Calls}
 use Rattle.dd_rig.specs.declared.tallies.Counts.{Counts}
-use Rattle.dd_rig.specs.Counts.{up_to}
 use Rattle.dd_rig.specs.Device.{Device, IsOutside, IsImage}
 use Rattle.dd_rig.specs.World.{World}
 use Rattle.dd_model.specs.State.{Sizes, State}
@@ -18,8 +17,8 @@ use Rattle.dd_script.specs.Text.{fault_text}
 use Rattle.dd_loop.specs.Saying.{IsIdle}
 use Rattle.dd_loop.specs.Standing.{AllStand}
 use Rattle.dd_serve.specs.Answering.{MayAnswer, HoldsState, StaysBy, CostsLines}
-use Rattle.dd_serve.specs.Calls.{Asks, AsksForLines, is_hit, is_load, is_miss, hits_in, loads_in, misses_in, looks_in}
-use Rattle.dd_serve.specs.Scratch.{ScratchView, IsSound, Scratched, KeepsImages, scratch_sizes, scratch_state}
+use Rattle.dd_serve.specs.Calls.{AsksForLines, is_hit, is_load, is_miss, hits_in, loads_in, misses_in, looks_in}
+use Rattle.dd_serve.specs.Scratch.{ScratchView, Scratched, KeepsImages, scratch_sizes}
 
 -- lines, and further ones
 pub faults_both : (device : Dev) (lines others : List (List ℕ)) → faults_in device (lines ++ others) ≡ faults_in device lines + faults_in device others

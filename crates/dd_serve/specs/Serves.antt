@@ -23,16 +23,16 @@ pub record KeepsPromise (print : List ℕ → Fp) (script : List ℕ) (old new :
   pub behind : (from : Begins print old) → (o : Outcome) → MayLeave new o → Promises from script o
 
 -- What it says, takes, and why it ends.
-pub record ServesScript (print : List ℕ → Fp) (status : ℕ) (tells script_tells untaken : Type 0) (size : Dev → ℕ) (script rest : List ℕ) (takes_before takes_after : ℕ) (before after : Counts) (old new : World) : Type 0 where
+pub record ServesScript (print : List ℕ → Fp) (status : ℕ) (tells script_tells same_source : Type 0) (size : Dev → ℕ) (script rest : List ℕ) (takes_before takes_after : ℕ) (before after : Counts) (old new : World) : Type 0 where
   -- its lines answer the commands, and the status says how it ended
   pub says : tells → script_tells → (from : Begins print old) → Serves print (sizes_from from) from.start script status old new before after
   -- where no call fails and the script is bounded, it is served, or there is no memory
   pub ends_well : tells → script_tells → (from : Begins print old) → IsQuiet before after → IsStill takes_before takes_after → IsBounded (sizes_from from) script → (status ≡ 0) ⊎ (status ≡ 4)
   -- which count rose
-  pub caused : IsCaused untaken ((sizes : Sizes) × (script_tells → IsBounded sizes script → ⊥)) status before after takes_before takes_after
+  pub caused : IsCaused same_source ((sizes : Sizes) × (script_tells → IsBounded sizes script → ⊥)) status before after takes_before takes_after
   -- it is refused by the first condition of the devices, and served only where there is none
   pub refused : tells → status ≡ 3 → Refuses size (shown Flash old) before after old new
   pub unopened : tells → (fault : OpenFault) → IsFirstFault size (shown Flash old) fault → IsUnserved status
   -- a script that was served is taken to its end or its quit and up to 4,096 bytes behind that; refused, or without memory, nothing is taken
   pub taken : tells → script_tells → (from : Begins print old) → status ≤ 1 → IsTakenTo (dialect_of (sizes_from from)) script rest
-  pub untaken : (status ≡ 3) ⊎ (status ≡ 4) → untaken × Makes (up_to 4 1 0) (up_to 0 1 0) before after
+  pub untaken : (status ≡ 3) ⊎ (status ≡ 4) → same_source × Makes (up_to 4 1 0) (up_to 0 1 0) before after

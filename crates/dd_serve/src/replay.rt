@@ -164,12 +164,5 @@ fn serve_script<L: Lists, F: Fingerprint, R: Rig, S: Source>(
         other,
         block: plan.block,
     };
-    Ok(serve_lines(
-        &mut cache,
-        &mut reader,
-        source,
-        rig,
-        &mut block,
-        &mut text,
-    ))
+    Ok(serve_lines(&mut cache, &mut reader, source, rig, &mut block, &mut text))
 }

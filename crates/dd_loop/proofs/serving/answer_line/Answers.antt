@@ -1,11 +1,8 @@
-use Rattle.std.proofs.Common.{◌≡◌, List, [], ℕ, ap, sym, subst, ◌∙◌}
+use Rattle.std.proofs.Common.{◌≡◌, List, ℕ, sym, subst, ◌∙◌}
 use Rattle.dd_rig.specs.World.{World}
 use Rattle.dd_rig.specs.declared.tallies.Counts.{Counts}
-use Rattle.dd_model.specs.State.{State, Sizes}
-use Rattle.dd_block.specs.declared.print.Fp.{Fp}
-use Rattle.dd_script.specs.Command.{Command}
+use Rattle.dd_model.specs.State.{State}
 use Rattle.dd_script.specs.Line.{told}
-use Rattle.std.specs.Prelude.{Option}
 use Rattle.dd_loop.specs.Terms.{Terms}
 use Rattle.dd_loop.specs.Standing.{AllStand}
 use Rattle.dd_loop.specs.Answering.{Pays, CutsLine}

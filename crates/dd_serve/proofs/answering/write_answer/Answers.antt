@@ -1,4 +1,4 @@
-use Rattle.std.proofs.Common.{◌≡◌, ◌+◌, ◌<◌, ◌^◌, ℕ, List, false, refl, sym, arith}
+use Rattle.std.proofs.Common.{◌<◌, ◌^◌, ℕ, List, false, refl, arith}
 use Rattle.dd_block.specs.declared.print.Fp.{Fp}
 use Rattle.dd_rig.specs.World.{World}
 use Rattle.dd_rig.proofs.Falling.{falls_self}

@@ -1,10 +1,9 @@
-use Rattle.std.proofs.Common.{true, false, inl, inr, refl, sym, ap, ◌∙◌, subst, ℕ, List}
+use Rattle.std.proofs.Common.{true, false, inl, inr, refl, sym, ap, subst, ℕ, List}
 use Rattle.dd_block.specs.declared.print.Fp.{Fp}
 use Rattle.dd_rig.specs.declared.device.Dev.TheVariants.{Flash, Disk}
 use Rattle.dd_rig.specs.World.{World}
-use Rattle.dd_model.specs.State.{Sizes, State}
+use Rattle.dd_model.specs.State.{State}
 use Rattle.dd_script.specs.Command.{read as a_read}
-use Rattle.dd_script.specs.Text.{fault_text}
 use Rattle.dd_loop.specs.Answering.{Pays, WritesLine}
 use Rattle.dd_serve.specs.Answering.{HoldsState, CostsLines}
 use Rattle.dd_serve.specs.Laws.{scratched_both}
@@ -21,9 +20,12 @@ returns-in-Ok-clause-answer g c = λ t first one s kept.
     let world : World = g.R.Rig.world c.read.new.rig in
     let before = g.R.Rig.counts c.args.rig.now in
     let end = g.R.Rig.counts c.read.new.rig in
-    subst (λ (x : State). WritesLine print (scratch_sizes old) (λ committed held. HoldsState print new first world held) (λ lines. Pays (CostsLines old new) before end lines 0) one x (a_read c.args.address) (record { size = c.reply_read.result; faulted = false }) c.reply_read.new.into) (sym kept.is)
-    (_, c.reply_read.ensures.text, replies_read print old new first world before end c.read.ensures.frame.0 (scratched_both first middle world kept.since (c.read.ensures.others t).0) c.in-Ok.ensures.sizes.0 (c.in-Ok.ensures.sound t kept.sound) one (scratch_state old middle)
-    c.args.address c.read.new.block c.in-Ok.done c.reply_read.ensures.line (c.in-Ok.ensures.block t kept.sound) (c.in-Ok.ensures.answer t kept.sound) (c.in-Ok.ensures.state t kept.sound) (c.in-Ok.ensures.asks_for t kept.sound))
+    subst (λ (x : State). WritesLine print (scratch_sizes old) (λ committed held. HoldsState print new first world held) (λ lines. Pays (CostsLines old new) before end lines 0) one x (a_read c.args.address) (record { size = c.reply_read.result; faulted = false }) c.reply_read.new.into) (sym kept.is) (
+      _,
+      c.reply_read.ensures.text,
+      replies_read print old new first world before end c.read.ensures.frame.0 (scratched_both first middle world kept.since (c.read.ensures.others t).0) c.in-Ok.ensures.sizes.0 (c.in-Ok.ensures.sound t kept.sound) one (scratch_state old middle)
+          c.args.address c.read.new.block c.in-Ok.done c.reply_read.ensures.line (c.in-Ok.ensures.block t kept.sound) (c.in-Ok.ensures.answer t kept.sound) (c.in-Ok.ensures.state t kept.sound) (c.in-Ok.ensures.asks_for t kept.sound),
+    )
 
 pub returns-in-Err-FlashRead-clause-answer : goal.returns-in-Err-FlashRead-clause-answer
 returns-in-Err-FlashRead-clause-answer g c = λ t first one s kept.
@@ -35,9 +37,12 @@ returns-in-Err-FlashRead-clause-answer g c = λ t first one s kept.
     let before = g.R.Rig.counts c.args.rig.now in
     let end = g.R.Rig.counts c.read.new.rig in
     let told = rw c.in-Err-FlashRead.field-0-is at c.in-Err-FlashRead.ensures in
-    subst (λ (x : State). WritesLine print (scratch_sizes old) (λ committed held. HoldsState print new first world held) (λ lines. Pays (CostsLines old new) before end lines 0) one x (a_read c.args.address) (record { size = c.write_reply.result; faulted = true }) c.write_reply.new.into) (sym kept.is)
-    (_, c.write_reply.ensures.text, faults print old new first world before end c.read.ensures.frame.0 (scratched_both first middle world kept.since (c.read.ensures.others t).0) (ap scratch_sizes told.kept) (sound_left print old new middle world told.kept (told.unread t) kept.sound) one (scratch_state old middle)
-    (a_read c.args.address) Flash (inl refl) (state_left old new middle world told.kept (told.unread t)) told.cause told.asks)
+    subst (λ (x : State). WritesLine print (scratch_sizes old) (λ committed held. HoldsState print new first world held) (λ lines. Pays (CostsLines old new) before end lines 0) one x (a_read c.args.address) (record { size = c.write_reply.result; faulted = true }) c.write_reply.new.into) (sym kept.is) (
+      _,
+      c.write_reply.ensures.text,
+      faults print old new first world before end c.read.ensures.frame.0 (scratched_both first middle world kept.since (c.read.ensures.others t).0) (ap scratch_sizes told.kept) (sound_left print old new middle world told.kept (told.unread t) kept.sound) one (scratch_state old middle)
+          (a_read c.args.address) Flash (inl refl) (state_left old new middle world told.kept (told.unread t)) told.cause told.asks,
+    )
 
 pub returns-in-Err-DiskRead-clause-answer : goal.returns-in-Err-DiskRead-clause-answer
 returns-in-Err-DiskRead-clause-answer g c = λ t first one s kept.
@@ -49,6 +54,9 @@ returns-in-Err-DiskRead-clause-answer g c = λ t first one s kept.
     let before = g.R.Rig.counts c.args.rig.now in
     let end = g.R.Rig.counts c.read.new.rig in
     let told = rw c.in-Err-DiskRead.field-0-is at c.in-Err-DiskRead.ensures in
-    subst (λ (x : State). WritesLine print (scratch_sizes old) (λ committed held. HoldsState print new first world held) (λ lines. Pays (CostsLines old new) before end lines 0) one x (a_read c.args.address) (record { size = c.write_reply-in-Err-DiskRead.result; faulted = true }) c.write_reply-in-Err-DiskRead.new.into) (sym kept.is)
-    (_, c.write_reply-in-Err-DiskRead.ensures.text, faults print old new first world before end c.read.ensures.frame.0 (scratched_both first middle world kept.since (c.read.ensures.others t).0) (ap scratch_sizes told.kept) (sound_left print old new middle world told.kept (told.unread t) kept.sound) one (scratch_state old middle)
-    (a_read c.args.address) Disk (inr refl) (state_left old new middle world told.kept (told.unread t)) told.cause told.asks)
+    subst (λ (x : State). WritesLine print (scratch_sizes old) (λ committed held. HoldsState print new first world held) (λ lines. Pays (CostsLines old new) before end lines 0) one x (a_read c.args.address) (record { size = c.write_reply-in-Err-DiskRead.result; faulted = true }) c.write_reply-in-Err-DiskRead.new.into) (sym kept.is) (
+      _,
+      c.write_reply-in-Err-DiskRead.ensures.text,
+      faults print old new first world before end c.read.ensures.frame.0 (scratched_both first middle world kept.since (c.read.ensures.others t).0) (ap scratch_sizes told.kept) (sound_left print old new middle world told.kept (told.unread t) kept.sound) one (scratch_state old middle)
+          (a_read c.args.address) Disk (inr refl) (state_left old new middle world told.kept (told.unread t)) told.cause told.asks,
+    )

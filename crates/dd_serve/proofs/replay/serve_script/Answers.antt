@@ -1,5 +1,4 @@
-use Rattle.std.proofs.Common.{ap, ℕ, List, ◌∙◌, ◌<◌, ◌+◌, ◌^◌, arith}
-use Rattle.std.specs.Prelude.{IfErr}
+use Rattle.std.proofs.Common.{ap, ℕ, List, ◌∙◌, arith}
 use Rattle.std.proofs.lemmas.Result.{IfErr-weaker}
 use Rattle.dd_block.specs.declared.print.Fp.{Fp}
 use Rattle.dd_rig.specs.declared.device.Dev.TheVariants.{Disk}
