@@ -80,3 +80,6 @@ one_of (a ∷ b ∷ words) e = absurd (cc)
 pub serves_alone : (words : List (List ℕ)) → is_serve words ≡ true → (asked : Asked) → AsksFor words asked → ⊥
 serves_alone words e (Replay plan) h = omega (arith, one_of words e, four_words words plan h)
 serves_alone words e (Format geo) h = omega (arith, one_of words e, h.eight)
+
+pub not_asked : {A : Type 0} (words : List (List ℕ)) → false ≡ is_serve words → is_serve words ≡ true → A
+not_asked words other asks = absurd (cc)
