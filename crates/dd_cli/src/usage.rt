@@ -7,6 +7,8 @@ pub const USAGE: &str = "usage: dd_cli FLASH DISK COMMAND
       serve the script of reads on standard input; the flash is scratch
   format BLOCK BLOCKS ACAP BCAP SPARE GROUP LOG
       make the flash ready to keep the cache
+  serve
+      serve the script of reads and writes on standard input; the cache is kept
 
 FLASH and DISK are two files or block devices that exist, open for reading and writing.
 
