@@ -112,13 +112,6 @@ told_by print sizes KeptNow PaidNow c s block line known command written text is
     subst (λ (l : Line). WritesAnswer print sizes KeptNow PaidNow c s (told block l) (Some written) text) (sym is)
     (subst (λ (o : Option Command). WritesAnswer print sizes KeptNow PaidNow c s o (Some written) text) (sym says) w)
 
--- and none to a line that tells none
-pub told_none : (print : List ℕ → Fp) (sizes : Sizes) (KeptNow : (committed held : State) → Type 0) (PaidNow : List (List ℕ) → Type 0) (c s : State) (block : List ℕ) (line known : Line) (text : List ℕ)
-    → line ≡ known → told block known ≡ None → KeptNow c s → PaidNow [] → WritesAnswer print sizes KeptNow PaidNow c s (told block line) None text
-told_none print sizes KeptNow PaidNow c s block line known text is says kept paid =
-    subst (λ (l : Line). WritesAnswer print sizes KeptNow PaidNow c s (told block l) None text) (sym is)
-    (subst (λ (o : Option Command). WritesAnswer print sizes KeptNow PaidNow c s o None text) (sym says) (kept, paid))
-
 -- where a write failed a crash leaves what a replay may leave, and one command was begun
 pub halts_all : (result : Result (Option Written) Halt) (old new : ScratchView) (first world : World) (before end : Counts) (c s : State) → Scratched first world → scratch_sizes new ≡ scratch_sizes old
     → IfErr result (λ halt. AsksFor (scratch_sizes old).block (scratch_sizes old).bcap 0 1 1 before end)
