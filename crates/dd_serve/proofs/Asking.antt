@@ -7,7 +7,7 @@ use Rattle.dd_block.proofs.Geometries.{same_geometry}
 use Rattle.dd_serve.specs.declared.words.Plan.{Plan}
 use Rattle.dd_serve.specs.declared.words.Asked.{Asked}
 use Rattle.dd_serve.specs.declared.words.Asked.TheVariants.{Replay, Format}
-use Rattle.dd_serve.specs.Words.{is_serve, plan_of, plan_of_numbers, AsksFor, AsksFormat, AsksNoFormat, IsReplay}
+use Rattle.dd_serve.specs.Words.{is_serve, plan_of, plan_of_numbers, AsksFor, AsksFormat, AsksNoFormat}
 
 -- a replay has four words
 four_words : (words : List (List ℕ)) (plan : Plan) → plan_of words ≡ Some plan → length words ≡ 4
@@ -37,13 +37,6 @@ same_asked words (Replay p) (Replay q) h k = same_plan words p q h k
 same_asked words (Replay p) (Format g) h k = not_both words p g h k
 same_asked words (Format g) (Replay p) h k = not_both words p g k h
 same_asked words (Format g) (Format h) a b = ap Format (same_numbers words g h a b)
-
-pub is_replay : (words : List (List ℕ)) (asked : Asked) → AsksFor words asked → AsksNoFormat words → IsReplay asked
-is_replay words (Replay p) h none = tt
-is_replay words (Format g) h none = none g h
-
-pub same_format : (asked : Asked) (g h : Geometry) → asked ≡ Format g → asked ≡ Format h → g ≡ h
-same_format asked g h a b = cc
 
 -- what four words ask for
 pub plan_words : (words : List (List ℕ)) → length words ≡ 4 → plan_of words ≡ (if bytes_eq (get_or words 0 []) (codes "replay") then plan_of_numbers (get_or words 1 []) (get_or words 2 []) (get_or words 3 []) else None)

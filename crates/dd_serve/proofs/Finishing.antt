@@ -26,14 +26,14 @@ use Rattle.dd_loop.specs.declared.halt.Halt.TheVariants.{Stopped, Output}
 use Rattle.dd_loop.specs.Answering.{CountsFaults, HasFault}
 use Rattle.dd_loop.specs.Ending.{stopped_status}
 use Rattle.dd_loop.specs.Halting.{Halts}
-use Rattle.dd_loop.specs.Saying.{IsIdle, SaysAlone}
+use Rattle.dd_loop.specs.Saying.{EndsIn, IsIdle, SaysAlone}
 use Rattle.dd_loop.proofs.Faults.{counts_none, counts_later}
 use Rattle.dd_loop.proofs.Standing.{flat_snoc, whole_snoc, front_no_end}
 use Rattle.dd_serve.specs.declared.words.Plan.{Plan}
 use Rattle.dd_serve.specs.Answering.{IsFlash}
 use Rattle.dd_serve.specs.Calls.{AsksForLines, loads_in, unfinished}
 use Rattle.dd_serve.specs.Laws.{faults_both, asks_still, asks_weaker}
-use Rattle.dd_serve.specs.Replays.{Replays, ReplaysAll, ReplaysUpTo, EndsIn, IsBounded, said_since, lines_since, plan_sizes, replay_start, replay_commands, replay_output}
+use Rattle.dd_serve.specs.Replays.{Replays, ReplaysAll, ReplaysUpTo, IsBounded, said_since, lines_since, plan_sizes, replay_start, replay_commands, replay_output}
 use Rattle.dd_serve.proofs.Costs.{asks_stop}
 
 -- what was said since

@@ -1,17 +1,16 @@
 -- A replay: its state at the start, its output, and what each status says.
-use Rattle.std.specs.Prelude.{◌≡◌, ◌≢◌, ◌≤◌, ◌<◌, ◌+◌, ◌/◌, ℕ, Bool, List, min, length, take, drop, ◌⊎◌, [], ◌∷◌, ◌++◌}
-use Rattle.std.specs.List.{AllByRecursion, flat_map}
+use Rattle.std.specs.Prelude.{◌≡◌, ◌≢◌, ◌≤◌, ◌<◌, ◌+◌, ◌/◌, ℕ, Bool, List, min, length, drop, [], ◌++◌}
 use Rattle.dd_block.specs.declared.print.Fp.{Fp}
 use Rattle.dd_rig.specs.declared.device.Dev.TheVariants as dev
 use Rattle.dd_rig.specs.declared.tallies.Counts.{Counts}
-use Rattle.dd_rig.specs.Counts.{IsStill, Rose, plus}
+use Rattle.dd_rig.specs.Counts.{IsStill, plus}
 use Rattle.dd_rig.specs.World.{World, shown}
 use Rattle.dd_model.specs.State.{Sizes, State, array_of, fresh}
 use Rattle.dd_script.specs.declared.reply.Stop.{Stop}
 use Rattle.dd_script.specs.declared.reply.Stop.TheVariants as stop
 use Rattle.dd_script.specs.Command.{Command}
 use Rattle.dd_script.specs.Script.{lines_of, commands_of, EndsWithin}
-use Rattle.dd_script.specs.Text.{HasNoEnd, ended, stop_text}
+use Rattle.dd_script.specs.Text.{stop_text}
 use Rattle.dd_script.specs.declared.dialect.Dialect.{Dialect}
 use Rattle.dd_script.specs.Output.{reading_dialect_of, output}
 use Rattle.dd_script.specs.Answers.{Answers, AnswersAll, faults_in}
@@ -22,6 +21,7 @@ use Rattle.dd_serve.specs.Scratch.{ScratchView}
 use Rattle.dd_loop.specs.Ending.{stopped_status}
 use Rattle.dd_loop.specs.declared.halt.Halt.{Halt}
 use Rattle.dd_loop.specs.Answering.{Pays}
+use Rattle.dd_loop.specs.Saying.{EndsIn}
 use Rattle.dd_loop.specs.Serving.{ServedAll, ServedUpTo}
 use Rattle.dd_serve.specs.Answering.{StaysBy}
 use Rattle.dd_serve.specs.Calls.{AsksForLines, loads_in, unfinished}
@@ -80,11 +80,6 @@ said_since old new = drop (length old.said) new.said
 -- the whole lines of it
 abbrev pub lines_since : World → World → List (List ℕ)
 lines_since old new = (lines_of (said_since old new)).whole
-
--- the last that was said is that line, or an emit failed and it is a part of it
-abbrev pub EndsIn : List ℕ → List ℕ → Counts → Counts → Type 0
-EndsIn line output before after = (front : List (List ℕ)) × AllByRecursion HasNoEnd front ×
-    ((output ≡ flat_map ended (front ++ line ∷ [])) ⊎ (Rose before.failed_emits after.failed_emits × (n : ℕ) × (output ≡ flat_map ended front ++ take n (ended line))))
 
 -- What a replay of a script says over a disk of that size, whatever fails, and what its status says of that.
 pub record Replays (print : List ℕ → Fp) (plan : Plan) (disk : ℕ) (status : ℕ) (script : List ℕ) (old new : World) (before after : Counts) : Type 0 where
