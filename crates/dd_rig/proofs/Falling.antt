@@ -1,20 +1,31 @@
 -- Counts along a run of calls.
 use Rattle.std.proofs.Common.{◌≤◌, ◌+◌, ℕ, ◌∙◌, refl, arith}
 use Rattle.dd_rig.specs.declared.device.Dev.{Dev}
+use Rattle.dd_rig.specs.declared.tallies.Calls.{Calls}
 use Rattle.dd_rig.specs.declared.tallies.Counts.{Counts}
-use Rattle.dd_rig.specs.Counts.{NeverFalls, Frame, Quota, up_to, nothing, Makes, Rose}
+use Rattle.dd_rig.specs.Counts.{NoneFalls, NeverFalls, Frame, Quota, up_to, nothing, Makes, Rose}
+
+pub none_self : (a : Calls) → NoneFalls a a
+none_self a = record { reads = omega arith; writes = omega arith; written = omega arith; failed_reads = omega arith; failed_writes = omega arith }
+
+pub none_trans : (a b c : Calls) → NoneFalls a b → NoneFalls b c → NoneFalls a c
+none_trans a b c h k = record {
+  reads = omega (arith, h.reads, k.reads);
+  writes = omega (arith, h.writes, k.writes);
+  written = omega (arith, h.written, k.written);
+  failed_reads = omega (arith, h.failed_reads, k.failed_reads);
+  failed_writes = omega (arith, h.failed_writes, k.failed_writes);
+}
 
 -- before the first call
 pub falls_self : (a : Counts) → NeverFalls a a
-falls_self a = record { flash_reads = omega arith; flash_writes = omega arith; disk_reads = omega arith; disk_writes = omega arith; emits = omega arith }
+falls_self a = record { flash = none_self a.flash; disk = none_self a.disk; emits = omega arith }
 
 -- one call after another
 pub falls_trans : (a b c : Counts) → NeverFalls a b → NeverFalls b c → NeverFalls a c
 falls_trans a b c h k = record {
-  flash_reads = omega (arith, h.flash_reads, k.flash_reads);
-  flash_writes = omega (arith, h.flash_writes, k.flash_writes);
-  disk_reads = omega (arith, h.disk_reads, k.disk_reads);
-  disk_writes = omega (arith, h.disk_writes, k.disk_writes);
+  flash = none_trans a.flash b.flash c.flash h.flash k.flash;
+  disk = none_trans a.disk b.disk c.disk h.disk k.disk;
   emits = omega (arith, h.emits, k.emits);
 }
 
@@ -40,4 +51,4 @@ makes_both flash disk more_flash more_disk a b c h k = (
 pub rose_later : (first second third : ℕ) → Rose first second → second ≤ third → Rose first third
 rose_later first second third rose le = omega (arith, rose, le)
 
-pub ruleset frame_steps = (falls_self, falls_trans, frame_self, frame_trans)
+pub ruleset frame_steps = (none_self, falls_self, falls_trans, frame_self, frame_trans)

@@ -54,12 +54,18 @@ no_counts = record { flash = no_calls; disk = no_calls; failed_emits = 0 }
 abbrev pub Rose : ℕ → ℕ → Type 0
 Rose before after = plus before 1 ≤ after
 
--- no count of failures falls
+-- no count of a device falls
+pub record NoneFalls (before after : Calls) : Type 0 where
+  pub reads : before.reads ≤ after.reads
+  pub writes : before.writes ≤ after.writes
+  pub written : before.written ≤ after.written
+  pub failed_reads : before.failed_reads ≤ after.failed_reads
+  pub failed_writes : before.failed_writes ≤ after.failed_writes
+
+-- no count falls
 pub record NeverFalls (before after : Counts) : Type 0 where
-  pub flash_reads : before.flash.failed_reads ≤ after.flash.failed_reads
-  pub flash_writes : before.flash.failed_writes ≤ after.flash.failed_writes
-  pub disk_reads : before.disk.failed_reads ≤ after.disk.failed_reads
-  pub disk_writes : before.disk.failed_writes ≤ after.disk.failed_writes
+  pub flash : NoneFalls before.flash after.flash
+  pub disk : NoneFalls before.disk after.disk
   pub emits : before.failed_emits ≤ after.failed_emits
 
 -- a count that neither rose nor stands at its last value
@@ -74,7 +80,7 @@ pub record IsQuiet (before after : Counts) : Type 0 where
   pub disk_writes : IsStill before.disk.failed_writes after.disk.failed_writes
   pub emits : IsStill before.failed_emits after.failed_emits
 
--- What every call keeps, and so every run of calls: no count of failures falls, and each device has its size.
+-- What every call keeps, and so every run of calls: no count falls, and each device has its size.
 abbrev pub Frame : (before after : Counts) (sizes sizes_after : Dev → ℕ) → Type 0
 Frame before after sizes sizes_after = NeverFalls before after × (sizes_after ≡ sizes)
 
