@@ -44,8 +44,8 @@ pub caused_later : (opening long some more : Type 0) → (opening → some) → 
 caused_later opening long some more v w (Served faulted) a b c m n falls h = tt
 caused_later opening long some more v w (Refused why) a b c m n falls h = v h
 caused_later opening long some more v w (Stopped stop.Flash) a b c m n falls h =
-    ⊎_elim (λ r. inl (omega (arith, r, falls.flash_writes))) (λ r. inr (v r.0, omega (arith, r.1, falls.flash_reads))) h
-caused_later opening long some more v w (Stopped stop.Disk) a b c m n falls h = omega (arith, h, falls.disk_writes)
+    ⊎_elim (λ r. inl (omega (arith, r, falls.flash.failed_writes))) (λ r. inr (v r.0, omega (arith, r.1, falls.flash.failed_reads))) h
+caused_later opening long some more v w (Stopped stop.Disk) a b c m n falls h = omega (arith, h, falls.disk.failed_writes)
 caused_later opening long some more v w (Stopped stop.Script) a b c m n falls h = h
 caused_later opening long some more v w (Stopped stop.Length) a b c m n falls h = w h
 caused_later opening long some more v w (Stopped stop.Memory) a b c m n falls h = tt
@@ -105,11 +105,11 @@ pub quiet_ending : (print : List ℕ → Fp) (sizes : Sizes) (start : State) (co
     → Caused ⊥ long ending a b m n → NeverFalls b c → IsQuiet a c → IsStill m n → (long → ⊥) → (status_of ending ≡ 0) ⊎ (status_of ending ≡ 4)
 quiet_ending print sizes start commands long (Served false) said new a b c m n ends h falls quiet still bounded = inl refl
 quiet_ending print sizes start commands long (Served true) said new a b c m n ends h falls quiet still bounded =
-    absurd (omega (arith, ends.fault, ends.sofar.paid.1.flash, ends.sofar.paid.1.disk, falls.flash_reads, falls.disk_reads, quiet.flash_reads.0, quiet.flash_reads.1, quiet.disk_reads.0, quiet.disk_reads.1))
+    absurd (omega (arith, ends.fault, ends.sofar.paid.1.flash, ends.sofar.paid.1.disk, falls.flash.failed_reads, falls.disk.failed_reads, quiet.flash_reads.0, quiet.flash_reads.1, quiet.disk_reads.0, quiet.disk_reads.1))
 quiet_ending print sizes start commands long (Refused why) said new a b c m n ends h falls quiet still bounded = absurd h
 quiet_ending print sizes start commands long (Stopped stop.Flash) said new a b c m n ends h falls quiet still bounded =
-    ⊎_elim (λ r. absurd (still_all _ _ _ falls.flash_writes quiet.flash_writes r)) (λ r. absurd r.0) h
-quiet_ending print sizes start commands long (Stopped stop.Disk) said new a b c m n ends h falls quiet still bounded = absurd (still_all _ _ _ falls.disk_writes quiet.disk_writes h)
+    ⊎_elim (λ r. absurd (still_all _ _ _ falls.flash.failed_writes quiet.flash_writes r)) (λ r. absurd r.0) h
+quiet_ending print sizes start commands long (Stopped stop.Disk) said new a b c m n ends h falls quiet still bounded = absurd (still_all _ _ _ falls.disk.failed_writes quiet.disk_writes h)
 quiet_ending print sizes start commands long (Stopped stop.Script) said new a b c m n ends h falls quiet still bounded = absurd (still_all m n n (omega arith) still h)
 quiet_ending print sizes start commands long (Stopped stop.Length) said new a b c m n ends h falls quiet still bounded = absurd (bounded h)
 quiet_ending print sizes start commands long (Stopped stop.Memory) said new a b c m n ends h falls quiet still bounded = inr refl
@@ -139,9 +139,9 @@ stops print printed geo open_fault.Version1 new s h = absurd h
 pub quiet_fault : {F : Type 0} (print : F) (printed : List ℕ → Fp) (geo : Geometry) (fault : OpenFault) (new : World) (s : State) (a b c : Counts) → Opens print printed geo (Err fault) new s → OpenFaulted fault a b → NeverFalls b c → IsQuiet a c
     → status_of (ending_of fault) ≡ 4
 quiet_fault print printed geo (open_fault.Memory e) new s a b c h rose falls quiet = refl
-quiet_fault print printed geo open_fault.FlashRead new s a b c h rose falls quiet = absurd (still_all _ _ _ falls.flash_reads quiet.flash_reads rose)
-quiet_fault print printed geo open_fault.FlashWrite new s a b c h rose falls quiet = absurd (still_all _ _ _ falls.flash_writes quiet.flash_writes rose)
-quiet_fault print printed geo open_fault.DiskWrite new s a b c h rose falls quiet = absurd (still_all _ _ _ falls.disk_writes quiet.disk_writes rose)
+quiet_fault print printed geo open_fault.FlashRead new s a b c h rose falls quiet = absurd (still_all _ _ _ falls.flash.failed_reads quiet.flash_reads rose)
+quiet_fault print printed geo open_fault.FlashWrite new s a b c h rose falls quiet = absurd (still_all _ _ _ falls.flash.failed_writes quiet.flash_writes rose)
+quiet_fault print printed geo open_fault.DiskWrite new s a b c h rose falls quiet = absurd (still_all _ _ _ falls.disk.failed_writes quiet.disk_writes rose)
 quiet_fault print printed geo (open_fault.FlashSmall need have) new s a b c h rose falls quiet = absurd h
 quiet_fault print printed geo (open_fault.DiskSmall need have) new s a b c h rose falls quiet = absurd h
 quiet_fault print printed geo (open_fault.Super fault) new s a b c h rose falls quiet = absurd h
@@ -154,9 +154,9 @@ quiet_fault print printed geo open_fault.Version1 new s a b c h rose falls quiet
 -- the cause of an ending without an opened store
 pub fault_caused : (opening long : Type 0) → opening → (fault : OpenFault) (a b c : Counts) (m n : ℕ) → OpenFaulted fault a b → NeverFalls b c → Caused opening long (ending_of fault) a c m n
 fault_caused opening long o (open_fault.Memory e) a b c m n rose falls = tt
-fault_caused opening long o open_fault.FlashRead a b c m n rose falls = inr (o, omega (arith, rose, falls.flash_reads))
-fault_caused opening long o open_fault.FlashWrite a b c m n rose falls = inl (omega (arith, rose, falls.flash_writes))
-fault_caused opening long o open_fault.DiskWrite a b c m n rose falls = omega (arith, rose, falls.disk_writes)
+fault_caused opening long o open_fault.FlashRead a b c m n rose falls = inr (o, omega (arith, rose, falls.flash.failed_reads))
+fault_caused opening long o open_fault.FlashWrite a b c m n rose falls = inl (omega (arith, rose, falls.flash.failed_writes))
+fault_caused opening long o open_fault.DiskWrite a b c m n rose falls = omega (arith, rose, falls.disk.failed_writes)
 fault_caused opening long o (open_fault.FlashSmall need have) a b c m n rose falls = o
 fault_caused opening long o (open_fault.DiskSmall need have) a b c m n rose falls = o
 fault_caused opening long o (open_fault.Super fault) a b c m n rose falls = o
@@ -249,8 +249,8 @@ by_three P {a} {x} {b} {y} {d} {z} e f h p = subst (λ (k : _). P x y k) h (subs
 pub caused_since : (some more long : Type 0) → (long → more) → (ending : Ending) (a b c : Counts) (m n : ℕ) → NeverFalls a b → Caused ⊥ long ending b c m n → Caused some more ending a c m n
 caused_since some more long w (Served faulted) a b c m n falls h = tt
 caused_since some more long w (Refused why) a b c m n falls h = absurd h
-caused_since some more long w (Stopped stop.Flash) a b c m n falls h = ⊎_elim (λ r. inl (omega (arith, r, falls.flash_writes))) (λ r. absurd r.0) h
-caused_since some more long w (Stopped stop.Disk) a b c m n falls h = omega (arith, h, falls.disk_writes)
+caused_since some more long w (Stopped stop.Flash) a b c m n falls h = ⊎_elim (λ r. inl (omega (arith, r, falls.flash.failed_writes))) (λ r. absurd r.0) h
+caused_since some more long w (Stopped stop.Disk) a b c m n falls h = omega (arith, h, falls.disk.failed_writes)
 caused_since some more long w (Stopped stop.Script) a b c m n falls h = h
 caused_since some more long w (Stopped stop.Length) a b c m n falls h = w h
 caused_since some more long w (Stopped stop.Memory) a b c m n falls h = tt
@@ -262,10 +262,10 @@ still_behind a b c le more still = (omega (arith, le, more, still.0), still.1)
 -- where no call fails none of the later ones does
 pub quiet_behind : (a b c : Counts) → NeverFalls a b → NeverFalls b c → IsQuiet a c → IsQuiet b c
 quiet_behind a b c falls more quiet = record {
-  flash_reads = still_behind _ _ _ falls.flash_reads more.flash_reads quiet.flash_reads;
-  flash_writes = still_behind _ _ _ falls.flash_writes more.flash_writes quiet.flash_writes;
-  disk_reads = still_behind _ _ _ falls.disk_reads more.disk_reads quiet.disk_reads;
-  disk_writes = still_behind _ _ _ falls.disk_writes more.disk_writes quiet.disk_writes;
+  flash_reads = still_behind _ _ _ falls.flash.failed_reads more.flash.failed_reads quiet.flash_reads;
+  flash_writes = still_behind _ _ _ falls.flash.failed_writes more.flash.failed_writes quiet.flash_writes;
+  disk_reads = still_behind _ _ _ falls.disk.failed_reads more.disk.failed_reads quiet.disk_reads;
+  disk_writes = still_behind _ _ _ falls.disk.failed_writes more.disk.failed_writes quiet.disk_writes;
   emits = still_behind _ _ _ falls.emits more.emits quiet.emits;
 }
 
@@ -286,7 +286,7 @@ serves_since print sizes start script status old middle new before between after
   said = s.said ∙ ap (λ (l : List ℕ). l ++ s.output) same;
   answers = s.answers;
   whole = λ calm. s.whole (still_behind _ _ _ falls.emits more.emits calm);
-  faults = record { flash = omega (arith, s.faults.flash, falls.flash_reads); disk = omega (arith, s.faults.disk, falls.disk_reads) };
+  faults = record { flash = omega (arith, s.faults.flash, falls.flash.failed_reads); disk = omega (arith, s.faults.disk, falls.disk.failed_reads) };
   ending = s.ending;
   status_is = s.status_is;
   ends = ends_so s.ending s.ends;

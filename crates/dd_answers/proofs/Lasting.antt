@@ -8,6 +8,7 @@ use Rattle.dd_rig.specs.declared.device.Dev.{Dev}
 use Rattle.dd_rig.specs.declared.device.Dev.TheVariants as dev
 use Rattle.dd_rig.specs.declared.tallies.Counts.{Counts}
 use Rattle.dd_rig.specs.Counts.{IsStill, Rose, NeverFalls}
+use Rattle.dd_rig.proofs.Falling.{falls_self}
 use Rattle.dd_rig.specs.Device.{Device, IsImage}
 use Rattle.dd_rig.specs.World.{World, Outcome, MayLeave, WithinEmit}
 use Rattle.dd_model.specs.State.{Sizes, State}
@@ -41,7 +42,7 @@ still_emits a b c h still rose = omega (arith, h, still.0, still.1, rose)
 
 -- a line that stops a run says of no device that its read failed
 stop_faults : (why : Stop) (a b : Counts) → NeverFalls a b → CountsFaults (stop_text why ∷ []) a b
-stop_faults why a b falls = record { flash = omega (arith, none_flash why, falls.flash_reads); disk = omega (arith, none_disk why, falls.disk_reads) }
+stop_faults why a b falls = record { flash = omega (arith, none_flash why, falls.flash.failed_reads); disk = omega (arith, none_disk why, falls.disk.failed_reads) }
   where
     none_flash : (why : Stop) → faults_in dev.Flash (stop_text why ∷ []) ≡ 0
     none_flash stop.Flash = refl
@@ -157,7 +158,7 @@ module _ (print : List ℕ → Fp) (sizes : Sizes) (start : State) (commands : L
   headline_stopped : (why : Stop) (n : ℕ) (new : World) (before after : Counts) (served : ServedUpTo print sizes (StandsBy print) start commands (FaultsPaid before after) (halts.Stopped why) said new) (o : Outcome)
       → o.out ≡ new.said ++ take n (ended (stop_text why)) → IsImage new.flash o.flash → IsImage new.disk o.disk → Headline print sizes start commands said o
   headline_stopped why n new before after served o is flash disk =
-      let falls : NeverFalls after after = record { flash_reads = omega arith; flash_writes = omega arith; disk_reads = omega arith; disk_writes = omega arith; emits = omega arith } in
+      let falls : NeverFalls after after = falls_self after in
       let s = stopping (StandsBy print) why n new o.out before after after served.sofar served.halts.1 served.halts.0 falls is in
       headline_lines o s.now s.rest s.out_is s.whole s.no_end s.tell (s.later o.flash o.disk (served.sofar.now o.flash o.disk flash disk))
 

@@ -17,8 +17,8 @@ rose_later a b c h r = omega (arith, h, r)
 
 pub halts_later : (Stops : Dev → Type 0) (failed long : Type 0) (halt : Halt) (a b c : Counts) → NeverFalls a b → Halts Stops failed long halt b c → Halts Stops failed long halt a c
 halts_later Stops failed long Output a b c h r = rose_later _ _ _ h.emits r
-halts_later Stops failed long (Stopped stop.Flash) a b c h r = (r.0, rose_later _ _ _ h.flash_writes r.1)
-halts_later Stops failed long (Stopped stop.Disk) a b c h r = (r.0, rose_later _ _ _ h.disk_writes r.1)
+halts_later Stops failed long (Stopped stop.Flash) a b c h r = (r.0, rose_later _ _ _ h.flash.failed_writes r.1)
+halts_later Stops failed long (Stopped stop.Disk) a b c h r = (r.0, rose_later _ _ _ h.disk.failed_writes r.1)
 halts_later Stops failed long (Stopped stop.Script) a b c h r = r
 halts_later Stops failed long (Stopped stop.Length) a b c h r = r
 halts_later Stops failed long (Stopped stop.Memory) a b c h r = r

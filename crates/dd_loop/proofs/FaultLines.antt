@@ -85,9 +85,9 @@ fault_has dev.Disk = omega arith
 
 -- a fault line was paid by the read that failed
 pub fault_counts : (device : Dev) (a b : Counts) → NeverFalls a b → Rose (calls_of device a).failed_reads (calls_of device b).failed_reads → CountsFaults (fault_text device ∷ []) a b
-fault_counts dev.Flash a b falls rose = record { flash = omega (arith, rose); disk = omega (arith, falls.disk_reads) }
-fault_counts dev.Disk a b falls rose = record { flash = omega (arith, falls.flash_reads); disk = omega (arith, rose) }
+fault_counts dev.Flash a b falls rose = record { flash = omega (arith, rose); disk = omega (arith, falls.disk.failed_reads) }
+fault_counts dev.Disk a b falls rose = record { flash = omega (arith, falls.flash.failed_reads); disk = omega (arith, rose) }
 
 -- and a reply by none
 pub reply_counts : (line : List ℕ) (a b : Counts) → HasFault false (line ∷ []) → NeverFalls a b → CountsFaults (line ∷ []) a b
-reply_counts line a b none falls = record { flash = omega (arith, none.0, falls.flash_reads); disk = omega (arith, none.1, falls.disk_reads) }
+reply_counts line a b none falls = record { flash = omega (arith, none.0, falls.flash.failed_reads); disk = omega (arith, none.1, falls.disk.failed_reads) }

@@ -23,10 +23,10 @@ counts_both lines others a b c h k = record {
 
 -- no line says more than failed
 pub counts_later : (lines : List (List ℕ)) (a b c : Counts) → CountsFaults lines a b → NeverFalls b c → CountsFaults lines a c
-counts_later lines a b c h k = record { flash = omega (arith, h.flash, k.flash_reads); disk = omega (arith, h.disk, k.disk_reads) }
+counts_later lines a b c h k = record { flash = omega (arith, h.flash, k.flash.failed_reads); disk = omega (arith, h.disk, k.disk.failed_reads) }
 
 pub counts_none : (a b : Counts) → NeverFalls a b → CountsFaults [] a b
-counts_none a b k = record { flash = omega (arith, k.flash_reads); disk = omega (arith, k.disk_reads) }
+counts_none a b k = record { flash = omega (arith, k.flash.failed_reads); disk = omega (arith, k.disk.failed_reads) }
 
 pub fault_snoc : (faulted failed : Bool) (lines : List (List ℕ)) (line : List ℕ) → HasFault faulted lines → HasFault failed (line ∷ []) → HasFault (faulted || failed) (lines ++ line ∷ [])
 fault_snoc true failed lines line h k = omega (arith, h, faults_both dev.Flash lines (line ∷ []), faults_both dev.Disk lines (line ∷ []))

@@ -25,9 +25,19 @@ one_look r a b d looked idle = (
   ),
 )
 
--- behind the look no count of failures has fallen
-pub looked_falls : (a b : Counts) → NeverFalls a b → NeverFalls (looked a) b
-looked_falls a b h = record { flash_reads = h.flash_reads; flash_writes = h.flash_writes; disk_reads = h.disk_reads; disk_writes = h.disk_writes; emits = h.emits }
+-- behind the look no count has fallen below what it counts
+pub looked_falls : {T E : Type 0} (r : Result T E) (a b : Counts) → b ≡ count_read dev.Flash r a → NeverFalls a b → NeverFalls (looked a) b
+looked_falls r a b e h = record {
+  flash = record {
+    reads = omega (arith, ap (λ (k : Counts). k.flash.reads) e);
+    writes = h.flash.writes;
+    written = h.flash.written;
+    failed_reads = h.flash.failed_reads;
+    failed_writes = h.flash.failed_writes;
+  };
+  disk = h.disk;
+  emits = h.emits;
+}
 
 -- and no line was said
 pub asks_looked : {T E : Type 0} (sizes : Sizes) (r : Result T E) (a b : Counts) → b ≡ count_read dev.Flash r a → AsksForLines sizes [] 0 (looked a) b

@@ -61,7 +61,7 @@ returns-in-Err-clause-served g c = λ t u first.
     let after : Counts = g.R.Rig.counts c.finish.new.rig in
     let script : List ℕ = g.S.Source.rest c.args.source.now in
     let one = c.is_in_use.ensures.counts in
-    let later = looked_falls (g.R.Rig.counts c.args.rig.now) between c.in-Err.ensures.frame.0 in
+    let later = looked_falls c.is_in_use.result (g.R.Rig.counts c.args.rig.now) between one c.in-Err.ensures.frame.0 in
     let asks = asks_looked (plan_sizes c.args.plan (g.R.Rig.device_size c.args.rig.now Disk)) c.is_in_use.result (g.R.Rig.counts c.args.rig.now) between one in
     let said : SaysAlone (stop_text stop.Flash) between after old new = subst (λ (w : World). SaysAlone (stop_text stop.Flash) between after w new) (c.in-Err.ensures.world t) (c.finish.ensures.said t) in
     subst (λ (n : ℕ). Replays print c.args.plan (g.R.Rig.device_size c.args.rig.now Disk) n script old new before after) (sym c.finish.ensures.status)
