@@ -52,35 +52,3 @@ module _ (StandFor : (flash disk : List ℕ) → State → Type 0) (print : List
       part_said (λ lines. PaidNow lines 0) pays command (AllStand StandFor new)
       (λ one another k flash disk flash_image disk_image. stands one another k flash disk (subst (λ (v : World). IsImage v.flash flash) some.1 flash_image) (subst (λ (v : World). IsImage v.disk disk) some.1 disk_image))
       w some.0 new.said (ap (λ (v : World). v.said) some.1)
-
-  -- it didn't
-  pub line_said : (PaidNow : List (List ℕ) → Type 0) → ((lines : List (List ℕ)) → PaidThen lines → PaidNow lines) → (Later : (committed held : State) → Type 0) (o : Option Command) (new : World)
-      → ((one another : State) → Kept one another → Later one another)
-      → WritesAnswer print sizes Kept PaidThen c s o (Some written) text → new ≡ say (take written.size text) middle → AnswersLine print sizes Later PaidNow c s o written.faulted old.said new.said
-  line_said PaidNow pays Later None new on w is = absurd w
-  line_said PaidNow pays Later (Some command) new on w is = (
-    w.0,
-    ap (λ (v : World). v.said) is ∙ ap (λ (l : List ℕ). l ++ take written.size text) same ∙ ap (λ (l : List ℕ). old.said ++ l) w.1,
-    record {
-      no_end = w.2.no_end;
-      one = w.2.one;
-      fault = w.2.fault;
-      committed = w.2.committed;
-      either = w.2.either;
-      sure = w.2.sure;
-      kept = on w.2.committed _ w.2.kept;
-      paid = pays (w.0 ∷ []) w.2.paid;
-    },
-  )
-
--- a crash within the cache's call, where nothing is said behind it
-pub line_unsaid : (StandFor : (flash disk : List ℕ) → State → Type 0) (print : List ℕ → Fp) (sizes : Sizes) (c s : State) (old : World) (o : Option Command) {first second : Clock}
-    → Elapses first second (WithinCall StandFor c s old) → Elapses first second (WithinLine print sizes StandFor c s o old)
-line_unsaid StandFor print sizes c s old None call = call
-line_unsaid StandFor print sizes c s old (Some command) call = widens call (λ o h. inl h)
-
--- a halt of the cache
-pub line_halted : (StandFor : (flash disk : List ℕ) → State → Type 0) (print : List ℕ → Fp) (sizes : Sizes) (Paid : List (List ℕ) → ℕ → Type 0) (halt : Halt) (c s : State) (o : Option Command) (old new : World)
-    → (halt ≡ Output → ⊥) → AllStandForEither StandFor c s new → new.said ≡ old.said → Paid [] 1 → CutsLine print sizes StandFor Paid halt c s o old new
-line_halted StandFor print sizes Paid Output c s o old new never either same paid = absurd (never refl)
-line_halted StandFor print sizes Paid (Stopped why) c s o old new never either same paid = (either, same, paid)

@@ -4,13 +4,10 @@ use Rattle.dd_rig.specs.declared.device.Dev.{Dev}
 use Rattle.dd_rig.specs.declared.tallies.Counts.{Counts}
 use Rattle.dd_rig.specs.Counts.{Rose, NeverFalls}
 use Rattle.dd_rig.proofs.Falling.{falls_self, falls_trans, frame_self, frame_trans}
-use Rattle.dd_script.specs.declared.pieces.ScriptFault.{ScriptFault}
-use Rattle.dd_script.specs.declared.pieces.ScriptFault.TheVariants as script
 use Rattle.dd_script.specs.declared.reply.Stop.TheVariants as stop
-use Rattle.dd_script.specs.Reading.{Fails}
 use Rattle.dd_loop.specs.declared.halt.Halt.{Halt}
 use Rattle.dd_loop.specs.declared.halt.Halt.TheVariants.{Stopped, Output}
-use Rattle.dd_loop.specs.Halting.{Halts, HaltsByDevice, stop_of}
+use Rattle.dd_loop.specs.Halting.{Halts, HaltsByDevice}
 
 rose_later : (a b c : ℕ) → a ≤ b → Rose b c → Rose a c
 rose_later a b c h r = omega (arith, h, r)
@@ -42,12 +39,3 @@ halts_by Stops failed long some more v w (Stopped stop.Disk) a b h = h
 halts_by Stops failed long some more v w (Stopped stop.Script) a b h = v h
 halts_by Stops failed long some more v w (Stopped stop.Length) a b h = w h
 halts_by Stops failed long some more v w (Stopped stop.Memory) a b h = h
-
--- what a command causes is a cause of the run
-pub halts_command : (Stops : Dev → Type 0) (failed long : Type 0) (halt : Halt) (a b c : Counts) → NeverFalls a b → Halts Stops ⊥ ⊥ halt b c → Halts Stops failed long halt a c
-halts_command Stops failed long halt a b c h r = halts_later Stops failed long halt a b c h (halts_by Stops ⊥ ⊥ failed long (λ never. absurd never) (λ never. absurd never) halt b c r)
-
--- a script that can't be read on is a cause of the run
-pub halts_script : (Stops : Dev → Type 0) (P Q : Type 0) → (P → Q) → (fault : ScriptFault) (a b : Counts) (l m n : ℕ) → l ≤ m → Fails P fault m n → Halts Stops (Rose l n) Q (Stopped (stop_of fault)) a b
-halts_script Stops P Q w script.Take a b l m n h r = rose_later _ _ _ h r
-halts_script Stops P Q w script.Length a b l m n h r = w r

@@ -7,3 +7,4 @@ pub mod Reading
 pub mod Taken
 pub mod FaultLines
 pub mod Keeping
+pub mod Served

@@ -20,7 +20,7 @@ use Rattle.dd_loop.specs.declared.halt.Halt.{Halt}
 use Rattle.dd_loop.specs.declared.halt.Halt.TheVariants.{Stopped, Output}
 use Rattle.dd_loop.specs.Answering.{HasFault, Replied, AnswersLine, WithinLine, CutsLine}
 use Rattle.dd_loop.specs.Serving.{Sofar, ServedAll, ServedUpTo}
-use Rattle.dd_loop.specs.Standing.{StandForEither, AllStand, AllStandForEither, Stood, StandForPrefix}
+use Rattle.dd_loop.specs.Standing.{IsHeld, StandForEither, AllStand, AllStandForEither, Stood, StandForPrefix}
 use Rattle.dd_loop.proofs.Faults.{fault_snoc, fault_same}
 
 pub whole_snoc : (lines : List (List ℕ)) (line : List ℕ) → AllByRecursion HasNoEnd lines → HasNoEnd line → AllByRecursion HasNoEnd (lines ++ line ∷ [])
@@ -357,7 +357,7 @@ module _ (StandFor : (flash disk : List ℕ) → State → Type 0) (print : List
 
     -- each command was answered
     pub served_all : (PaidNow : List (List ℕ) → ℕ → Type 0) (new : World) → new.said ≡ now → AllStand StandFor new committed → left ≡ [] → PaidNow g.lines 0
-        → ServedAll print sizes StandFor start commands PaidNow faulted said new
+        → ServedAll print sizes StandFor start commands PaidNow (λ lines s. IsHeld Kept s) faulted said new
     served_all PaidNow new was stands none paid =
         let nothing_left : drop (length g.lines) commands ≡ [] = g.left_is ∙ none in
         record {
@@ -372,6 +372,7 @@ module _ (StandFor : (flash disk : List ℕ) → State → Type 0) (print : List
             now = λ flash disk flash_image disk_image. stood_either flash disk (inl (stands flash disk flash_image disk_image));
             paid = paid;
           };
+          held = (committed, g.kept);
           all = omega (arith, ap length nothing_left, length-drop (length g.lines) commands, no_more_lines print sizes start commands g.lines g.answered);
           nothing_more = refl;
           fault = g.fault;

@@ -33,9 +33,11 @@ module _ (print : List ℕ → Fp) (sizes : Sizes) (StandFor : (flash disk : Lis
     pub now : (flash disk : List ℕ) → IsImage new.flash flash → IsImage new.disk disk → Stood StandFor print sizes start commands lines flash disk
     pub paid : Paid lines
 
-  -- each command was answered, and by its reply where no fault was told
-  pub record ServedAll (start : State) (commands : List Command) (Paid : List (List ℕ) → ℕ → Type 0) (faulted : Bool) (said_before : List ℕ) (new : World) : Type 0 where
+  -- Each command was answered, and by its reply where no fault was told. What is held behind the last line is told by the lines and the
+  -- state after the references that they answer.
+  pub record ServedAll (start : State) (commands : List Command) (Paid : List (List ℕ) → ℕ → Type 0) (Held : List (List ℕ) → State → Type 0) (faulted : Bool) (said_before : List ℕ) (new : World) : Type 0 where
     pub sofar : Sofar start commands (λ lines. Paid lines 0) said_before new
+    pub held : Held sofar.lines (after_all sizes start (answered_by sofar.lines commands))
     pub all : length sofar.lines ≡ length commands
     pub nothing_more : sofar.rest ≡ []
     pub fault : HasFault faulted sofar.lines

@@ -7,6 +7,10 @@ use Rattle.dd_model.specs.State.{Sizes, State}
 use Rattle.dd_script.specs.Command.{Command, after_all}
 use Rattle.dd_script.specs.Answers.{answered_by, taken, state_after, acknowledged, acknowledged_in, Answers}
 
+-- what is kept has this state, whatever is committed
+abbrev pub IsHeld : ((committed held : State) → Type 0) → State → Type 0
+IsHeld Kept s = (committed : State) × Kept committed s
+
 module _ (StandFor : (flash disk : List ℕ) → State → Type 0) where
   -- both devices stand for one of two states
   abbrev pub StandForEither : (one another : State) → (flash disk : List ℕ) → Type 0

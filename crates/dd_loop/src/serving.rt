@@ -13,7 +13,7 @@ ghost use Rattle.dd_loop.specs.declared.halt.Halt.TheVariants.{Output};
 ghost use Rattle.dd_loop.specs.Answering.{Pays, AnswersLine, WithinLine, CutsLine};
 ghost use Rattle.dd_loop.specs.Halting.{Halts, stop_of};
 ghost use Rattle.dd_loop.specs.Serving.{ServedAll, ServedUpTo};
-ghost use Rattle.dd_loop.specs.Standing.{StandForPrefix, StandForSome};
+ghost use Rattle.dd_loop.specs.Standing.{IsHeld, StandForPrefix, StandForSome};
 ghost use Rattle.dd_loop.specs.Terms.{dialect_in};
 
 use crate::cache::Cache;
@@ -42,7 +42,8 @@ pub fn serve_lines<R: Rig, C: Cache<R>, S: Source>(
         → Elapses (R.clock rig.old) (R.clock rig.new) (StandForSome (C.stands (C.terms cache.old) first)) }
     ensures all { R.tells → S.tells → (first : World) (start : State) → C.kept cache.old first (R.world rig.old) start start
         → IfOk result (λ faulted. ServedAll (C.terms cache.old).print (C.terms cache.old).sizes (C.stands (C.terms cache.old) first) start
-        (commands_of (dialect_in (C.terms cache.old)) (left reader.old (S.rest source.old))) (Pays (C.costs cache.old cache.new) (R.counts rig.old) (R.counts rig.new)) faulted (R.world rig.old).said (R.world rig.new)) }
+        (commands_of (dialect_in (C.terms cache.old)) (left reader.old (S.rest source.old))) (Pays (C.costs cache.old cache.new) (R.counts rig.old) (R.counts rig.new))
+        (λ lines s. IsHeld (C.kept cache.new first (R.world rig.new)) s) faulted (R.world rig.old).said (R.world rig.new)) }
     ensures some { R.tells → S.tells → (first : World) (start : State) → C.kept cache.old first (R.world rig.old) start start
         → IfErr result (λ halt. ServedUpTo (C.terms cache.old).print (C.terms cache.old).sizes (C.stands (C.terms cache.old) first) start
         (commands_of (dialect_in (C.terms cache.old)) (left reader.old (S.rest source.old))) (Pays (C.costs cache.old cache.new) (R.counts rig.old) (R.counts rig.new)) halt (R.world rig.old).said (R.world rig.new)) }

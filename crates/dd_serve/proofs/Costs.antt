@@ -14,9 +14,11 @@ use Rattle.dd_script.specs.declared.line.BadKind.TheVariants as bad_is
 use Rattle.dd_script.specs.declared.reply.Stop.{Stop}
 use Rattle.dd_script.specs.declared.reply.Stop.TheVariants as stop
 use Rattle.dd_script.specs.Text.{read_text, bye_text, bad_text, fault_text, stop_text}
-use Rattle.dd_serve.specs.Laws.{hits_both, looks_both, misses_both}
-use Rattle.dd_serve.proofs.ZeroTexts.{zeros_told}
-use Rattle.dd_serve.specs.Calls.{Asks, AsksFor, AsksForLine, AsksForLines, hits_in, misses_in, looks_in, slots_for, looks_for, writes_for}
+use Rattle.dd_script.specs.Counting.{hits_in, misses_in}
+use Rattle.dd_script.proofs.Counting.{hits_both, misses_both}
+use Rattle.dd_script.proofs.ZeroTexts.{zeros_told}
+use Rattle.dd_serve.specs.Laws.{looks_both}
+use Rattle.dd_serve.specs.Calls.{Asks, AsksFor, AsksForLine, AsksForLines, looks_in, slots_for, looks_for, writes_for}
 
 -- what a line says of itself
 record Tells (line : List ℕ) (h q m : ℕ) : Type 0 where

@@ -31,8 +31,10 @@ use Rattle.dd_loop.proofs.Faults.{counts_none, counts_later}
 use Rattle.dd_loop.proofs.Standing.{flat_snoc, whole_snoc, front_no_end}
 use Rattle.dd_serve.specs.declared.words.Plan.{Plan}
 use Rattle.dd_serve.specs.Answering.{IsFlash}
-use Rattle.dd_serve.specs.Calls.{AsksForLines, loads_in, unfinished}
-use Rattle.dd_serve.specs.Laws.{faults_both, asks_still, asks_weaker}
+use Rattle.dd_script.specs.Counting.{loads_in}
+use Rattle.dd_script.proofs.Counting.{faults_both}
+use Rattle.dd_serve.specs.Calls.{AsksForLines, unfinished}
+use Rattle.dd_serve.specs.Laws.{asks_still, asks_weaker}
 use Rattle.dd_serve.specs.Replays.{Replays, ReplaysAll, ReplaysUpTo, IsBounded, said_since, lines_since, plan_sizes, replay_start, replay_commands, replay_output}
 use Rattle.dd_serve.proofs.Costs.{asks_stop}
 

@@ -11,34 +11,13 @@ use Rattle.dd_script.specs.Reading.{Held, left, fuel, IsTakenTo}
 use Rattle.dd_script.specs.Script.{commands_of, EndsWithin}
 use Rattle.dd_loop.specs.declared.halt.Halt.{Halt}
 use Rattle.dd_loop.specs.Answering.{Pays}
-use Rattle.dd_loop.specs.Serving.{Sofar, ServedAll, ServedUpTo}
+use Rattle.dd_loop.specs.Serving.{ServedAll, ServedUpTo}
+use Rattle.dd_loop.proofs.Served.{all_by, some_by}
 use Rattle.dd_serve.specs.declared.words.Plan.{Plan}
 use Rattle.dd_serve.specs.Answering.{StaysBy, CostsLines}
 use Rattle.dd_serve.specs.Calls.{AsksForLines}
 use Rattle.dd_serve.specs.Replays.{ReplaysAll, ReplaysUpTo, IsBounded, plan_sizes, replay_start, replay_dialect}
 use Rattle.dd_serve.specs.Scratch.{ScratchView, scratch_sizes}
-
--- what was paid by one account is paid by another
-module _ (print : List ℕ → Fp) (sizes : Sizes) (StandFor : (flash disk : List ℕ) → State → Type 0) (start : State) (commands : List Command) (Then Now : List (List ℕ) → ℕ → Type 0)
-    (pays : (lines : List (List ℕ)) (more : ℕ) → Then lines more → Now lines more) (said : List ℕ) (new : World) where
-  abbrev sofar_by : (more : ℕ) → Sofar print sizes StandFor start commands (λ lines. Then lines more) said new → Sofar print sizes StandFor start commands (λ lines. Now lines more) said new
-  sofar_by more s = record {
-    lines = s.lines;
-    rest = s.rest;
-    answered = s.answered;
-    whole = s.whole;
-    part = s.part;
-    no_end = s.no_end;
-    said = s.said;
-    now = s.now;
-    paid = pays s.lines more s.paid;
-  }
-
-  all_by : (faulted : Bool) → ServedAll print sizes StandFor start commands Then faulted said new → ServedAll print sizes StandFor start commands Now faulted said new
-  all_by faulted h = record { sofar = sofar_by 0 h.sofar; all = h.all; nothing_more = h.nothing_more; fault = h.fault; exact = h.exact }
-
-  some_by : (halt : Halt) → ServedUpTo print sizes StandFor start commands Then halt said new → ServedUpTo print sizes StandFor start commands Now halt said new
-  some_by halt h = record { sofar = sofar_by 1 h.sofar; halts = h.halts }
 
 -- The sizes of the scratch are those of the plan, and the reader holds nothing yet.
 module _ (plan : Plan) (disk : ℕ) (script : List ℕ) (one : ScratchView) (held : Held) (same : scratch_sizes one ≡ plan_sizes plan disk) (none : held ≡ record { bytes = []; taken = 0; ended = false }) where
@@ -46,17 +25,17 @@ module _ (plan : Plan) (disk : ℕ) (script : List ℕ) (one : ScratchView) (hel
     costs_asks : (lines : List (List ℕ)) (more : ℕ) → Pays (CostsLines one two) before end lines more → Pays (AsksForLines (scratch_sizes one)) before end lines more
     costs_asks lines more p = (p.0.asks, p.1)
 
-    pub all_for : (served : Result Bool Halt)
-        → IfOk served (λ faulted. ServedAll print (scratch_sizes one) (StaysBy old) (replay_start plan disk old) (commands_of (reading_dialect_of (scratch_sizes one)) (left held script)) (Pays (CostsLines one two) before end) faulted old.said new)
+    pub all_for : (Holding : List (List ℕ) → State → Type 0) (served : Result Bool Halt)
+        → IfOk served (λ faulted. ServedAll print (scratch_sizes one) (StaysBy old) (replay_start plan disk old) (commands_of (reading_dialect_of (scratch_sizes one)) (left held script)) (Pays (CostsLines one two) before end) Holding faulted old.said new)
         → IfOk served (λ faulted. ReplaysAll print plan disk faulted script old new before end)
-    all_for (Ok faulted) h =
+    all_for Holding (Ok faulted) h =
         let start : State = replay_start plan disk old in
         let commands : List Command = commands_of (reading_dialect_of (scratch_sizes one)) (left held script) in
-        let by : ServedAll print (scratch_sizes one) (StaysBy old) start commands (Pays (AsksForLines (scratch_sizes one)) before end) faulted old.said new =
-        all_by print (scratch_sizes one) (StaysBy old) start commands (Pays (CostsLines one two) before end) (Pays (AsksForLines (scratch_sizes one)) before end) costs_asks old.said new faulted h in
-        subst (λ (k : Held). ServedAll print (plan_sizes plan disk) (StaysBy old) start (commands_of (replay_dialect plan disk) (left k script)) (Pays (AsksForLines (plan_sizes plan disk)) before end) faulted old.said new) none
-        (subst (λ (z : Sizes). ServedAll print z (StaysBy old) start (commands_of (reading_dialect_of z) (left held script)) (Pays (AsksForLines z) before end) faulted old.said new) same by)
-    all_for (Err halt) h = tt
+        let by : ServedAll print (scratch_sizes one) (StaysBy old) start commands (Pays (AsksForLines (scratch_sizes one)) before end) (λ lines s. Unit {0}) faulted old.said new =
+        all_by print (scratch_sizes one) (StaysBy old) start commands (Pays (CostsLines one two) before end) (Pays (AsksForLines (scratch_sizes one)) before end) costs_asks old.said new Holding (λ lines s. Unit {0}) (λ lines s paid h. tt) faulted h in
+        subst (λ (k : Held). ServedAll print (plan_sizes plan disk) (StaysBy old) start (commands_of (replay_dialect plan disk) (left k script)) (Pays (AsksForLines (plan_sizes plan disk)) before end) (λ lines s. Unit {0}) faulted old.said new) none
+        (subst (λ (z : Sizes). ServedAll print z (StaysBy old) start (commands_of (reading_dialect_of z) (left held script)) (Pays (AsksForLines z) before end) (λ lines s. Unit {0}) faulted old.said new) same by)
+    all_for Holding (Err halt) h = tt
 
     pub some_for : (served : Result Bool Halt)
         → IfErr served (λ halt. ServedUpTo print (scratch_sizes one) (StaysBy old) (replay_start plan disk old) (commands_of (reading_dialect_of (scratch_sizes one)) (left held script)) (Pays (CostsLines one two) before end) halt old.said new)

@@ -1,6 +1,5 @@
 -- How often a replay asks its devices.
-use Rattle.std.specs.Prelude.{◌≤◌, ℕ, ◌+◌, ◌*◌, ◌||◌, ◌&&◌, not, Bool, List, [], ◌∷◌, ◌++◌, take, codes, count_by, cond, nat_le}
-use Rattle.std.specs.Str.{bytes_eq}
+use Rattle.std.specs.Prelude.{◌≤◌, ℕ, ◌+◌, ◌*◌, List, [], ◌∷◌, cond, nat_le}
 use Rattle.dd_rig.specs.declared.device.Dev.TheVariants as dev
 use Rattle.dd_rig.specs.declared.tallies.Counts.{Counts}
 use Rattle.dd_rig.specs.Counts.{Quota, Makes, plus, up_to}
@@ -10,6 +9,7 @@ use Rattle.dd_model.specs.declared.given.Block.TheVariants.{Known, Fresh, Zero}
 use Rattle.dd_model.specs.declared.kind.Kind.{Kind}
 use Rattle.dd_model.specs.declared.kind.Kind.TheVariants.{Hit, Join, Miss, Dup, New}
 use Rattle.dd_script.specs.Answers.{faults_in}
+use Rattle.dd_script.specs.Counting.{hits_in, loads_in, misses_in}
 use Rattle.dd_serve.specs.declared.blocks.ScratchFault.{ScratchFault}
 use Rattle.dd_serve.specs.declared.blocks.ScratchFault.TheVariants.{FlashRead, DiskRead, FlashWrite}
 
@@ -58,32 +58,6 @@ abbrev pub writes_until : ScratchFault → ℕ
 writes_until FlashRead = 0
 writes_until DiskRead = 0
 writes_until FlashWrite = 1
-
--- whether a line tells a hit of zeros: it begins with `hit 00`, and a space or its end stands behind
-abbrev pub is_zeros_hit : List ℕ → Bool
-is_zeros_hit line = bytes_eq (take 7 (line ++ codes " ")) (codes "hit 00 ")
-
--- whether it tells a hit of another block
-abbrev pub is_hit : List ℕ → Bool
-is_hit line = bytes_eq (take 4 line) (codes "hit ") && not (is_zeros_hit line)
-
-abbrev pub is_load : List ℕ → Bool
-is_load line = bytes_eq (take 5 line) (codes "join ") || bytes_eq (take 5 line) (codes "miss ")
-
-abbrev pub is_miss : List ℕ → Bool
-is_miss line = bytes_eq (take 5 line) (codes "miss ")
-
--- how many of these lines are hits whose text isn't 00
-abbrev pub hits_in : List (List ℕ) → ℕ
-hits_in lines = count_by is_hit lines
-
--- how many are joins and misses
-abbrev pub loads_in : List (List ℕ) → ℕ
-loads_in lines = count_by is_load lines
-
--- how many are misses
-abbrev pub misses_in : List (List ℕ) → ℕ
-misses_in lines = count_by is_miss lines
 
 -- how many of these lines took a look: joins, misses and faults
 abbrev pub looks_in : List (List ℕ) → ℕ

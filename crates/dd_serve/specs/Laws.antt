@@ -2,7 +2,6 @@
 use Rattle.std.proofs.Common.{◌≡◌, inl, ℕ, ◌+◌, ◌*◌, ◌<◌, ◌≤◌, Bool, true, false, cond, List, [], ◌∷◌, ◌++◌, refl, sym, ◌∙◌, ap, subst, arith, if◌then◌else◌}
 use Rattle.std.specs.Prelude.{filter, nat_lt, slice_index}
 use Rattle.std.specs.Str.{bytes_eq}
-use Rattle.std.proofs.lemmas.List.Sums.{sum_by-append}
 use Rattle.std.proofs.lemmas.Slice.Eq.{bytes_eq-Decides}
 use Rattle.dd_block.specs.declared.print.Fp.{Fp}
 use Rattle.dd_rig.specs.declared.device.Dev.{Dev}
@@ -13,26 +12,16 @@ use Rattle.dd_rig.specs.Device.{Device, IsOutside, IsImage}
 use Rattle.dd_rig.specs.World.{World}
 use Rattle.dd_model.specs.State.{Sizes, State}
 use Rattle.dd_script.specs.Answers.{faults_in}
+use Rattle.dd_script.specs.Counting.{is_hit, is_load, is_miss, hits_in, loads_in, misses_in}
+use Rattle.dd_script.proofs.Counting.{faults_both, hits_both, loads_both, misses_both}
 use Rattle.dd_script.specs.Text.{fault_text}
 use Rattle.dd_loop.specs.Saying.{IsIdle}
 use Rattle.dd_loop.specs.Standing.{AllStand}
 use Rattle.dd_serve.specs.Answering.{MayAnswer, HoldsState, StaysBy, CostsLines}
-use Rattle.dd_serve.specs.Calls.{AsksForLines, is_hit, is_load, is_miss, hits_in, loads_in, misses_in, looks_in}
+use Rattle.dd_serve.specs.Calls.{AsksForLines, looks_in}
 use Rattle.dd_serve.specs.Scratch.{ScratchView, Scratched, KeepsImages, scratch_sizes}
 
 -- lines, and further ones
-pub faults_both : (device : Dev) (lines others : List (List ℕ)) → faults_in device (lines ++ others) ≡ faults_in device lines + faults_in device others
-faults_both device lines others = sum_by-append (λ l. if bytes_eq l (fault_text device) then 1 else 0) lines others
-
-pub hits_both : (lines others : List (List ℕ)) → hits_in (lines ++ others) ≡ hits_in lines + hits_in others
-hits_both lines others = sum_by-append (λ l. if is_hit l then 1 else 0) lines others
-
-loads_both : (lines others : List (List ℕ)) → loads_in (lines ++ others) ≡ loads_in lines + loads_in others
-loads_both lines others = sum_by-append (λ l. if is_load l then 1 else 0) lines others
-
-pub misses_both : (lines others : List (List ℕ)) → misses_in (lines ++ others) ≡ misses_in lines + misses_in others
-misses_both lines others = sum_by-append (λ l. if is_miss l then 1 else 0) lines others
-
 pub looks_both : (lines others : List (List ℕ)) → looks_in (lines ++ others) ≡ looks_in lines + looks_in others
 looks_both lines others = omega (arith, loads_both lines others, faults_both dev.Flash lines others, faults_both dev.Disk lines others)
 

@@ -24,7 +24,8 @@ use Rattle.dd_loop.specs.Answering.{Pays}
 use Rattle.dd_loop.specs.Saying.{EndsIn}
 use Rattle.dd_loop.specs.Serving.{ServedAll, ServedUpTo}
 use Rattle.dd_serve.specs.Answering.{StaysBy}
-use Rattle.dd_serve.specs.Calls.{AsksForLines, loads_in, unfinished}
+use Rattle.dd_script.specs.Counting.{loads_in}
+use Rattle.dd_serve.specs.Calls.{AsksForLines, unfinished}
 
 -- no more blocks than these are numbered
 abbrev pub most_blocks : ℕ
@@ -66,7 +67,7 @@ pub record IsFirst (plan : Plan) (disk : ℕ) (scratch : ScratchView) : Type 0 w
 -- each line of the script was answered, from that state on, and paid
 abbrev pub ReplaysAll : (List ℕ → Fp) → Plan → (disk : ℕ) → (faulted : Bool) → (script : List ℕ) → (old new : World) → (before after : Counts) → Type 0
 ReplaysAll print plan disk faulted script old new before after =
-    ServedAll print (plan_sizes plan disk) (StaysBy old) (replay_start plan disk old) (replay_commands plan disk script) (Pays (AsksForLines (plan_sizes plan disk)) before after) faulted old.said new
+    ServedAll print (plan_sizes plan disk) (StaysBy old) (replay_start plan disk old) (replay_commands plan disk script) (Pays (AsksForLines (plan_sizes plan disk)) before after) (λ lines s. Unit {0}) faulted old.said new
 
 -- the first of them were
 abbrev pub ReplaysUpTo : (List ℕ → Fp) → Plan → (disk : ℕ) → Halt → (script : List ℕ) → (old new : World) → (before after : Counts) → Type 0

@@ -39,7 +39,7 @@ returns-clause-all g c = λ t u.
     let kept : HoldsState print one old old (replay_start c.args.plan (size Disk) old) = first_holds print c.args.plan size one old c.requires.plan c.in_ok-scratch.ensures
     ((g.met.R.Rig.shows_image c.args.rig.now Disk t).same_length ∙ g.met.R.Rig.has_size c.args.rig.now Disk t) in
     all_for c.args.plan (size Disk) (g.S.Source.rest c.args.source.now) one c.in_ok-reader.reader (first_sizes c.args.plan (size Disk) one c.in_ok-scratch.ensures) c.in_ok-reader.ensures
-    print old new (g.R.Rig.counts c.args.rig.now) (g.R.Rig.counts c.serve_lines.new.rig) c.serve_lines.new.cache.scratch c.serve_lines.result (c.serve_lines.ensures.all t u old (replay_start c.args.plan (size Disk) old) kept)
+    print old new (g.R.Rig.counts c.args.rig.now) (g.R.Rig.counts c.serve_lines.new.rig) c.serve_lines.new.cache.scratch _ c.serve_lines.result (c.serve_lines.ensures.all t u old (replay_start c.args.plan (size Disk) old) kept)
 
 pub returns-clause-some : goal.returns-clause-some
 returns-clause-some g c = λ t u.

@@ -16,7 +16,7 @@ use Rattle.dd_model.specs.declared.kind.Kind.TheVariants.{Hit}
 use Rattle.dd_model.specs.State.{is_zero_block}
 use Rattle.dd_model.proofs.Zeros.{zeros_are, zeros_only}
 use Rattle.dd_script.specs.Text.{read_text, out_text, drop_text}
-use Rattle.dd_serve.specs.Calls.{is_zeros_hit}
+use Rattle.dd_script.specs.Counting.{is_zeros_hit}
 
 abbrev is_zero : ℕ → Bool
 is_zero b = b == 0
