@@ -74,9 +74,12 @@ dirty_few acap n (line ∷ lines) h = dirty_few acap (dirty_behind acap n line) 
 pub none_cleaned : (acap n count : ℕ) (front : List (List ℕ)) → dirty_after acap n (front ++ cleaned_text ∷ bye_text count ∷ []) ≡ 0
 none_cleaned acap n count front = dirty_both acap n front (cleaned_text ∷ bye_text count ∷ [])
 
+one_less : (n k : ℕ) → n - 1 - k ≡ n - suc k
+one_less n k = grind arith
+
 ticks : (acap n count k : ℕ) → dirty_after acap n (replicate k ticked_text ++ bye_text count ∷ []) ≡ n - k
 ticks acap n count zero = grind arith
-ticks acap n count (suc k) = ticks acap (n - 1) count k ∙ (grind arith : n - 1 - k ≡ n - suc k)
+ticks acap n count (suc k) = ticks acap (n - 1) count k ∙ one_less n k
 
 -- nor where the lines before it are `ticked`, as many as may be listed
 pub none_ticked : (acap n count : ℕ) (front : List (List ℕ)) → n ≤ acap → dirty_after acap n (front ++ (replicate acap ticked_text ++ bye_text count ∷ [])) ≡ 0
@@ -88,10 +91,10 @@ none_ticked acap n count front h =
     none h = grind arith
 
 -- what a line counts
-pub record Counted (line : List ℕ) (hits loads updates : ℕ) : Type 0 where
-  pub hits : hits_in (line ∷ []) ≡ hits
-  pub loads : loads_in (line ∷ []) ≡ loads
-  pub updates : updates_in (line ∷ []) ≡ updates
+pub record Counted (line : List ℕ) (h j w : ℕ) : Type 0 where
+  pub hits : hits_in (line ∷ []) ≡ h
+  pub loads : loads_in (line ∷ []) ≡ j
+  pub updates : updates_in (line ∷ []) ≡ w
 
 -- a hit of a block that isn't zeros
 abbrev pub hit_of : Kind → List ℕ → ℕ
