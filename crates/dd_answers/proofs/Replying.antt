@@ -26,11 +26,12 @@ use Rattle.dd_store.specs.declared.fault.StoreFault.{StoreFault}
 use Rattle.dd_store.specs.declared.fault.StoreFault.TheVariants.{FlashRead, DiskRead, FlashWrite, DiskWrite}
 use Rattle.dd_store.specs.Committing.{StandForEither as StoreStandsForEither}
 use Rattle.dd_store.specs.Keeping.{StoreView, Kept}
+use Rattle.dd_store.specs.Bringing.{IsReadFault}
 use Rattle.dd_store.specs.Serving.{GoesOn, Leaves, Faulted}
 use Rattle.dd_store.proofs.Moments.{elapses_both}
 use Rattle.dd_loop.specs.declared.cache.Written.{Written}
 use Rattle.dd_loop.specs.declared.halt.Halt.{Halt}
-use Rattle.dd_loop.specs.Answering.{CountsFaults, HasFault, GoesOnWith, WritesLine, WritesAnswer}
+use Rattle.dd_loop.specs.Answering.{CountsFaults, HasFault, Pays, GoesOnWith, WritesLine, WritesAnswer}
 use Rattle.dd_loop.specs.Standing.{AllStandForEither, WithinCall}
 use Rattle.dd_loop.proofs.FaultLines.{reply_has_none, fault_has, fault_counts, reply_counts}
 use Rattle.dd_answers.specs.Answering.{StandsBy, TellsFault}
@@ -56,17 +57,12 @@ write_line_is print answer done told =
     ∙ ap (λ (o : Option ℕ). write_text answer.kind o (option_map (λ (row : BRow). row.fp) done.cut.drop)) told.out
     ∙ ap (λ (d : Option Fp). write_text answer.kind answer.out d) told.drop
 
-module _ (print : List ℕ → Fp) (sizes : Sizes) (store : StoreView) (world : World) (before end : Counts) (falls : NeverFalls before end) (c s : State) where
-  abbrev Kept_now : (committed held : State) → Type 0
-  Kept_now committed held = Kept print store world committed held
-
-  abbrev Paid : List (List ℕ) → Type 0
-  Paid lines = CountsFaults lines before end
-
+module _ (print : List ℕ → Fp) (sizes : Sizes) (store : StoreView) (world : World) (Costs : List (List ℕ) → ℕ → Counts → Counts → Type 0) (before end : Counts) (falls : NeverFalls before end) (c s : State) where
   -- a reply, behind which the store goes on
   pub replies : (command : Command) (line : List ℕ) → HasNoEnd line → line ≡ reply_line print sizes s command → (g : GoesOn print c s store world (after sizes s command))
-      → IfSome (acknowledged_by line) (λ n. n ≤ g.committed.count) → GoesOnWith print sizes (λ committed held. Kept print store world committed held) (λ lines. CountsFaults lines before end) c s command false line
-  replies command line no_end is g sure =
+      → IfSome (acknowledged_by line) (λ n. n ≤ g.committed.count) → Costs (line ∷ []) 0 before end
+      → GoesOnWith print sizes (λ committed held. Kept print store world committed held) (λ lines. Pays Costs before end lines 0) c s command false line
+  replies command line no_end is g sure cost =
       let none : HasFault false (line ∷ []) = reply_has_none print sizes s command line is in
       record {
         no_end = no_end;
@@ -76,52 +72,54 @@ module _ (print : List ℕ → Fp) (sizes : Sizes) (store : StoreView) (world : 
         either = g.either;
         sure = sure;
         kept = subst (λ (t : State). Kept print store world g.committed t) (sym (after_reply print sizes s command line is)) g.kept;
-        paid = reply_counts line before end none falls;
+        paid = (cost, reply_counts line before end none falls);
       }
 
   pub replies_read : (address : ℕ) (block : List ℕ) (done : Done) → HasNoEnd (read_text done.kind block done.cut.out (option_map (λ (row : BRow). row.fp) done.cut.drop))
       → block ≡ content s.array address → Tells print done (read_answer sizes s address) → GoesOn print c s store world (after sizes s (read address))
-      → GoesOnWith print sizes (λ committed held. Kept print store world committed held) (λ lines. CountsFaults lines before end) c s (read address) false (read_text done.kind block done.cut.out (option_map (λ (row : BRow). row.fp) done.cut.drop))
-  replies_read address block done no_end same told g =
+      → Costs (read_text done.kind block done.cut.out (option_map (λ (row : BRow). row.fp) done.cut.drop) ∷ []) 0 before end
+      → GoesOnWith print sizes (λ committed held. Kept print store world committed held) (λ lines. Pays Costs before end lines 0) c s (read address) false (read_text done.kind block done.cut.out (option_map (λ (row : BRow). row.fp) done.cut.drop))
+  replies_read address block done no_end same told g cost =
       let fp : Option Fp = option_map (λ (row : BRow). row.fp) done.cut.drop in
       let line : List ℕ = read_text done.kind block done.cut.out fp in
       replies (read address) line no_end (read_line_is print (read_answer sizes s address) done block (content s.array address) told same) g
-      (no_acks line g.committed.count (read_acks done.kind block done.cut.out fp))
+      (no_acks line g.committed.count (read_acks done.kind block done.cut.out fp)) cost
 
   pub replies_write : (address : ℕ) (block : List ℕ) (done : Done) → HasNoEnd (write_text done.kind done.cut.out (option_map (λ (row : BRow). row.fp) done.cut.drop))
       → Tells print done (write_answer sizes s address block) → GoesOn print c s store world (after sizes s (write address block))
-      → GoesOnWith print sizes (λ committed held. Kept print store world committed held) (λ lines. CountsFaults lines before end) c s (write address block) false (write_text done.kind done.cut.out (option_map (λ (row : BRow). row.fp) done.cut.drop))
-  replies_write address block done no_end told g =
+      → Costs (write_text done.kind done.cut.out (option_map (λ (row : BRow). row.fp) done.cut.drop) ∷ []) 0 before end
+      → GoesOnWith print sizes (λ committed held. Kept print store world committed held) (λ lines. Pays Costs before end lines 0) c s (write address block) false (write_text done.kind done.cut.out (option_map (λ (row : BRow). row.fp) done.cut.drop))
+  replies_write address block done no_end told g cost =
       let fp : Option Fp = option_map (λ (row : BRow). row.fp) done.cut.drop in
       let line : List ℕ = write_text done.kind done.cut.out fp in
       replies (write address block) line no_end (write_line_is print (write_answer sizes s address block) done told) g
-      (no_acks line g.committed.count (write_acks done.kind done.cut.out fp))
+      (no_acks line g.committed.count (write_acks done.kind done.cut.out fp)) cost
 
   -- behind a commit
-  pub replies_flush : (n : ℕ) → n < 2 ^ 64 → HasNoEnd (flushed_text n) → n ≡ s.count → Kept print store world s s
-      → GoesOnWith print sizes (λ committed held. Kept print store world committed held) (λ lines. CountsFaults lines before end) c s flush false (flushed_text n)
-  replies_flush n fits no_end is kept = replies flush (flushed_text n) no_end (ap flushed_text is) (record { committed = s; either = inr refl; kept = kept }) (flushed_acks n s.count fits (omega (arith, is)))
+  pub replies_flush : (n : ℕ) → n < 2 ^ 64 → HasNoEnd (flushed_text n) → n ≡ s.count → Kept print store world s s → Costs (flushed_text n ∷ []) 0 before end
+      → GoesOnWith print sizes (λ committed held. Kept print store world committed held) (λ lines. Pays Costs before end lines 0) c s flush false (flushed_text n)
+  replies_flush n fits no_end is kept cost = replies flush (flushed_text n) no_end (ap flushed_text is) (record { committed = s; either = inr refl; kept = kept }) (flushed_acks n s.count fits (omega (arith, is))) cost
 
-  pub replies_bye : (n : ℕ) → n < 2 ^ 64 → HasNoEnd (bye_text n) → n ≡ s.count → Kept print store world s s
-      → GoesOnWith print sizes (λ committed held. Kept print store world committed held) (λ lines. CountsFaults lines before end) c s quit false (bye_text n)
-  replies_bye n fits no_end is kept = replies quit (bye_text n) no_end (ap bye_text is) (record { committed = s; either = inr refl; kept = kept }) (bye_acks n s.count fits (omega (arith, is)))
+  pub replies_bye : (n : ℕ) → n < 2 ^ 64 → HasNoEnd (bye_text n) → n ≡ s.count → Kept print store world s s → Costs (bye_text n ∷ []) 0 before end
+      → GoesOnWith print sizes (λ committed held. Kept print store world committed held) (λ lines. Pays Costs before end lines 0) c s quit false (bye_text n)
+  replies_bye n fits no_end is kept cost = replies quit (bye_text n) no_end (ap bye_text is) (record { committed = s; either = inr refl; kept = kept }) (bye_acks n s.count fits (omega (arith, is))) cost
 
-  pub replies_clean : HasNoEnd cleaned_text → GoesOn print c s store world s
-      → GoesOnWith print sizes (λ committed held. Kept print store world committed held) (λ lines. CountsFaults lines before end) c s clean false cleaned_text
-  replies_clean no_end g = replies clean cleaned_text no_end refl g (no_acks cleaned_text g.committed.count cleaned_acks)
+  pub replies_clean : HasNoEnd cleaned_text → GoesOn print c s store world s → Costs (cleaned_text ∷ []) 0 before end
+      → GoesOnWith print sizes (λ committed held. Kept print store world committed held) (λ lines. Pays Costs before end lines 0) c s clean false cleaned_text
+  replies_clean no_end g cost = replies clean cleaned_text no_end refl g (no_acks cleaned_text g.committed.count cleaned_acks) cost
 
-  pub replies_tick : HasNoEnd ticked_text → GoesOn print c s store world s
-      → GoesOnWith print sizes (λ committed held. Kept print store world committed held) (λ lines. CountsFaults lines before end) c s tick false ticked_text
-  replies_tick no_end g = replies tick ticked_text no_end refl g (no_acks ticked_text g.committed.count ticked_acks)
+  pub replies_tick : HasNoEnd ticked_text → GoesOn print c s store world s → Costs (ticked_text ∷ []) 0 before end
+      → GoesOnWith print sizes (λ committed held. Kept print store world committed held) (λ lines. Pays Costs before end lines 0) c s tick false ticked_text
+  replies_tick no_end g cost = replies tick ticked_text no_end refl g (no_acks ticked_text g.committed.count ticked_acks) cost
 
-  pub replies_bad : (kind : BadKind) → HasNoEnd (bad_text kind) → GoesOn print c s store world s
-      → GoesOnWith print sizes (λ committed held. Kept print store world committed held) (λ lines. CountsFaults lines before end) c s (bad kind) false (bad_text kind)
-  replies_bad kind no_end g = replies (bad kind) (bad_text kind) no_end refl g (no_acks (bad_text kind) g.committed.count (bad_acks kind))
+  pub replies_bad : (kind : BadKind) → HasNoEnd (bad_text kind) → GoesOn print c s store world s → Costs (bad_text kind ∷ []) 0 before end
+      → GoesOnWith print sizes (λ committed held. Kept print store world committed held) (λ lines. Pays Costs before end lines 0) c s (bad kind) false (bad_text kind)
+  replies_bad kind no_end g cost = replies (bad kind) (bad_text kind) no_end refl g (no_acks (bad_text kind) g.committed.count (bad_acks kind)) cost
 
   -- a fault line, behind which the store holds what it held
-  faults : (command : Command) (device : Dev) → MayFault command (fault_text device) → CountsFaults (fault_text device ∷ []) before end → GoesOn print c s store world s
-      → GoesOnWith print sizes (λ committed held. Kept print store world committed held) (λ lines. CountsFaults lines before end) c s command true (fault_text device)
-  faults command device may paid g = record {
+  faults : (command : Command) (device : Dev) → MayFault command (fault_text device) → CountsFaults (fault_text device ∷ []) before end → GoesOn print c s store world s → Costs (fault_text device ∷ []) 0 before end
+      → GoesOnWith print sizes (λ committed held. Kept print store world committed held) (λ lines. Pays Costs before end lines 0) c s command true (fault_text device)
+  faults command device may paid g cost = record {
     no_end = fault_no_end device;
     one = may;
     fault = fault_has device;
@@ -129,40 +127,40 @@ module _ (print : List ℕ → Fp) (sizes : Sizes) (store : StoreView) (world : 
     either = g.either;
     sure = no_acks (fault_text device) g.committed.count (fault_acks device);
     kept = subst (λ (t : State). Kept print store world g.committed t) (sym (after_fault print sizes s command device)) g.kept;
-    paid = paid;
+    paid = (cost, paid);
   }
 
   written_fault : (command : Command) (device : Dev) (written : Written) (text : List ℕ) → MayFault command (fault_text device) → CountsFaults (fault_text device ∷ []) before end
-      → (written.faulted ≡ true) × (take written.size text ≡ ended (fault_text device)) → GoesOn print c s store world s
-      → WritesLine print sizes (λ committed held. Kept print store world committed held) (λ lines. CountsFaults lines before end) c s command written text
-  written_fault command device written text may paid told g =
-      (fault_text device, told.1, subst (λ (b : Bool). GoesOnWith print sizes (λ committed held. Kept print store world committed held) (λ lines. CountsFaults lines before end) c s command b (fault_text device)) (sym told.0) (faults command device may paid g))
+      → (written.faulted ≡ true) × (take written.size text ≡ ended (fault_text device)) → GoesOn print c s store world s → Costs (fault_text device ∷ []) 0 before end
+      → WritesLine print sizes (λ committed held. Kept print store world committed held) (λ lines. Pays Costs before end lines 0) c s command written text
+  written_fault command device written text may paid told g cost =
+      (fault_text device, told.1, subst (λ (b : Bool). GoesOnWith print sizes (λ committed held. Kept print store world committed held) (λ lines. Pays Costs before end lines 0) c s command b (fault_text device)) (sym told.0) (faults command device may paid g cost))
 
   -- which faults a command may tell: of the flash, and a read of the disk too
   pub tells_fault : (T : Type 0) (command : Command) (next : State) (fault : StoreFault) (result : Result Written Halt) (text : List ℕ)
       → (fault ≡ FlashRead → MayFault command (fault_text dev.Flash)) → (fault ≡ DiskRead → MayFault command (fault_text dev.Disk))
-      → TellsFault fault result text → Leaves {T = T} print (Err fault) c s next store world → Faulted fault before end
-      → IfOk result (λ written. WritesLine print sizes (λ committed held. Kept print store world committed held) (λ lines. CountsFaults lines before end) c s command written text)
-  tells_fault T command next FlashRead (Ok written) text flash disk told left rose = written_fault command dev.Flash written text (flash refl) (fault_counts dev.Flash before end falls rose) told left
-  tells_fault T command next FlashRead (Err halt) text flash disk told left rose = tt
-  tells_fault T command next DiskRead (Ok written) text flash disk told left rose = written_fault command dev.Disk written text (disk refl) (fault_counts dev.Disk before end falls rose) told left
-  tells_fault T command next DiskRead (Err halt) text flash disk told left rose = tt
-  tells_fault T command next FlashWrite (Ok written) text flash disk told left rose = absurd told
-  tells_fault T command next FlashWrite (Err halt) text flash disk told left rose = tt
-  tells_fault T command next DiskWrite (Ok written) text flash disk told left rose = absurd told
-  tells_fault T command next DiskWrite (Err halt) text flash disk told left rose = tt
+      → TellsFault fault result text → Leaves {T = T} print (Err fault) c s next store world → Faulted fault before end → (IsReadFault fault → (device : Dev) → Costs (fault_text device ∷ []) 0 before end)
+      → IfOk result (λ written. WritesLine print sizes (λ committed held. Kept print store world committed held) (λ lines. Pays Costs before end lines 0) c s command written text)
+  tells_fault T command next FlashRead (Ok written) text flash disk told left rose cost = written_fault command dev.Flash written text (flash refl) (fault_counts dev.Flash before end falls rose) told left (cost tt dev.Flash)
+  tells_fault T command next FlashRead (Err halt) text flash disk told left rose cost = tt
+  tells_fault T command next DiskRead (Ok written) text flash disk told left rose cost = written_fault command dev.Disk written text (disk refl) (fault_counts dev.Disk before end falls rose) told left (cost tt dev.Disk)
+  tells_fault T command next DiskRead (Err halt) text flash disk told left rose cost = tt
+  tells_fault T command next FlashWrite (Ok written) text flash disk told left rose cost = absurd told
+  tells_fault T command next FlashWrite (Err halt) text flash disk told left rose cost = tt
+  tells_fault T command next DiskWrite (Ok written) text flash disk told left rose cost = absurd told
+  tells_fault T command next DiskWrite (Err halt) text flash disk told left rose cost = tt
 
--- where a call halts a crash now leaves one of the two
-pub halts_either : (T : Type 0) (print : List ℕ → Fp) (c s next : State) (store : StoreView) (world : World) (fault : StoreFault) (result : Result Written Halt) (text : List ℕ) → TellsFault fault result text → Leaves {T = T} print (Err fault) c s next store world
-    → IfErr result (λ halt. AllStandForEither (StandsBy print) c s world)
-halts_either T print c s next store world FlashRead (Ok written) text told left = tt
-halts_either T print c s next store world FlashRead (Err halt) text told left = absurd told
-halts_either T print c s next store world DiskRead (Ok written) text told left = tt
-halts_either T print c s next store world DiskRead (Err halt) text told left = absurd told
-halts_either T print c s next store world FlashWrite (Ok written) text told left = tt
-halts_either T print c s next store world FlashWrite (Err halt) text told left = left
-halts_either T print c s next store world DiskWrite (Ok written) text told left = tt
-halts_either T print c s next store world DiskWrite (Err halt) text told left = left
+-- where a call halts a crash now leaves one of the two, and the line was begun
+pub halts_either : (T : Type 0) (print : List ℕ → Fp) (c s next : State) (store : StoreView) (world : World) (Cost : Type 0) → Cost → (fault : StoreFault) (result : Result Written Halt) (text : List ℕ) → TellsFault fault result text
+    → Leaves {T = T} print (Err fault) c s next store world → IfErr result (λ halt. AllStandForEither (StandsBy print) c s world × Cost)
+halts_either T print c s next store world Cost cost FlashRead (Ok written) text told left = tt
+halts_either T print c s next store world Cost cost FlashRead (Err halt) text told left = absurd told
+halts_either T print c s next store world Cost cost DiskRead (Ok written) text told left = tt
+halts_either T print c s next store world Cost cost DiskRead (Err halt) text told left = absurd told
+halts_either T print c s next store world Cost cost FlashWrite (Ok written) text told left = tt
+halts_either T print c s next store world Cost cost FlashWrite (Err halt) text told left = (left, cost)
+halts_either T print c s next store world Cost cost DiskWrite (Ok written) text told left = tt
+halts_either T print c s next store world Cost cost DiskWrite (Err halt) text told left = (left, cost)
 
 -- the line that answers a line that tells this command
 pub told_by : (print : List ℕ → Fp) (sizes : Sizes) (KeptNow : (committed held : State) → Type 0) (PaidNow : List (List ℕ) → Type 0) (c s : State) (block : List ℕ) (line known : Line) (command : Command) (written : Written) (text : List ℕ)
@@ -200,7 +198,3 @@ module _ (print : List ℕ → Fp) (sizes : Sizes) (KeptThen KeptNow : (committe
       → IfOk result (λ written. WritesAnswer print sizes KeptNow PaidNow c s o written text)
   answers_by o (Ok written) text w = answer_by o written text w
   answers_by o (Err halt) text w = tt
-
-pub halts_and : (Q : Type 0) → Q → (result : Result (Option Written) Halt) (P : Type 0) → IfErr result (λ halt. P) → IfErr result (λ halt. P × Q)
-halts_and Q q (Ok written) P h = tt
-halts_and Q q (Err halt) P h = (h, q)

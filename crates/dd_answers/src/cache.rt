@@ -17,7 +17,8 @@ impl<F: Fingerprint, L: Lists, R: Rig> Cache<R> for StoreCache<F, L> {
     ghost use Rattle.std.specs.Prelude.{◌≡◌};
     ghost use Rattle.dd_store.specs.Keeping.{Kept};
     ghost use Rattle.dd_answers.specs.Answering.{store_terms, MayAnswer, StandsBy};
-    ghost use Rattle.dd_answers.specs.Laws.{kept_unsaid, answers_fewer};
+    ghost use Rattle.dd_answers.specs.Costs.{CostsLines};
+    ghost use Rattle.dd_answers.specs.Laws.{kept_unsaid, answers_fewer, costs_none, costs_both, costs_idle, costs_cut, costs_begun};
 
     ghost terms = { λ c. store_terms (F.printed c.store.print) c.store.store };
 
@@ -27,7 +28,7 @@ impl<F: Fingerprint, L: Lists, R: Rig> Cache<R> for StoreCache<F, L> {
 
     ghost stands = { λ terms first flash disk s. StandsBy terms.print flash disk s };
 
-    ghost costs = { λ old new lines more before after. Unit {0} };
+    ghost costs = { λ old new lines more before after. CostsLines old.store.store new.store.store lines more before after };
 
     ghost does = { λ before after. Unit {0} };
 
@@ -60,15 +61,15 @@ impl<F: Fingerprint, L: Lists, R: Rig> Cache<R> for StoreCache<F, L> {
 
     ghost fewer = { λ c n m size le ready. answers_fewer c.store.store n m size le ready };
 
-    ghost free = { λ c counts. tt };
+    ghost free = { λ c counts. costs_none c.store.store counts };
 
-    ghost sums = { λ one two three lines others more p q r h k. tt };
+    ghost sums = { λ one two three lines others more p q r h k. costs_both one.store.store two.store.store three.store.store lines others more p q r h k };
 
-    ghost idle = { λ one two lines more p q r flash disk h. tt };
+    ghost idle = { λ one two lines more p q r flash disk h. costs_idle one.store.store two.store.store lines more p q r flash disk h };
 
-    ghost cut = { λ one two line p q h. tt };
+    ghost cut = { λ one two line p q h. costs_cut one.store.store two.store.store line p q h };
 
-    ghost begun = { λ one two lines p q h. tt };
+    ghost begun = { λ one two lines p q h. costs_begun one.store.store two.store.store lines p q h };
 
     ghost does_none = { λ counts. tt };
 

@@ -1,5 +1,5 @@
 // The line that answers each command of a store.
-ghost use Rattle.std.specs.Prelude.{◌≡◌, ◌+◌, ◌<◌, ◌≤◌, ℕ, false, List, length, take, IfOk, IfSome, OnOk, IfErr};
+ghost use Rattle.std.specs.Prelude.{◌≡◌, ◌+◌, ◌<◌, ◌≤◌, ℕ, false, List, [], length, take, IfOk, IfSome, OnOk, IfErr};
 ghost use Rattle.dd_rig.specs.Clock.{Elapses};
 ghost use Rattle.dd_rig.specs.Counts.{Frame};
 ghost use Rattle.dd_model.specs.State.{State};
@@ -9,10 +9,11 @@ ghost use Rattle.dd_script.specs.Output.{dialect_of};
 ghost use Rattle.dd_script.specs.Text.{HasNoEnd, reply_room, ended, bad_text};
 ghost use Rattle.dd_store.specs.Keeping.{Kept};
 ghost use Rattle.dd_store.specs.Meaning.{sizes_of};
-ghost use Rattle.dd_loop.specs.Answering.{CountsFaults, WritesLine, WritesAnswer};
+ghost use Rattle.dd_loop.specs.Answering.{Pays, WritesLine, WritesAnswer};
 ghost use Rattle.dd_loop.specs.Halting.{HaltsByDevice};
 ghost use Rattle.dd_loop.specs.Standing.{AllStandForEither, WithinCall};
 ghost use Rattle.dd_answers.specs.Answering.{StandsBy, MayAnswer, TellsFault};
+ghost use Rattle.dd_answers.specs.Costs.{CostsLines};
 
 use dd_block::Fingerprint;
 use dd_loop::{Halt, Written};
@@ -58,9 +59,9 @@ fn write_read<F: Fingerprint, L: Lists, R: Rig>(
         → Elapses (R.clock rig.old) (R.clock rig.new) (WithinCall (StandsBy (F.printed store.old.print)) c s (R.world rig.old)) }
     ensures answer { R.tells → (c s : State) → Kept (F.printed store.old.print) store.old.store (R.world rig.old) c s
         → IfOk result (λ written. WritesLine (F.printed store.old.print) (sizes_of store.old.store.journal.geo) (λ committed held. Kept (F.printed store.old.print) store.new.store (R.world rig.new) committed held)
-        (λ lines. CountsFaults lines (R.counts rig.old) (R.counts rig.new)) c s (a_read address) written text.new) }
+        (λ lines. Pays (CostsLines store.old.store store.new.store) (R.counts rig.old) (R.counts rig.new) lines 0) c s (a_read address) written text.new) }
     ensures halt { R.tells → (c s : State) → Kept (F.printed store.old.print) store.old.store (R.world rig.old) c s
-        → IfErr result (λ halt. AllStandForEither (StandsBy (F.printed store.old.print)) c s (R.world rig.new)) }
+        → IfErr result (λ halt. AllStandForEither (StandsBy (F.printed store.old.print)) c s (R.world rig.new) × CostsLines store.old.store store.new.store [] 1 (R.counts rig.old) (R.counts rig.new)) }
     ensures cause { IfErr result (λ halt. HaltsByDevice (λ device. Unit {0}) halt (R.counts rig.old) (R.counts rig.new)) }
     ensures said { R.tells → (R.world rig.new).said ≡ (R.world rig.old).said }
     ensures room { IfOk result (λ written. written.size ≤ reply_room) }
@@ -94,9 +95,9 @@ fn write_write<F: Fingerprint, L: Lists, R: Rig>(
         → Elapses (R.clock rig.old) (R.clock rig.new) (WithinCall (StandsBy (F.printed store.old.print)) c s (R.world rig.old)) }
     ensures answer { R.tells → (c s : State) → Kept (F.printed store.old.print) store.old.store (R.world rig.old) c s
         → IfOk result (λ written. WritesLine (F.printed store.old.print) (sizes_of store.old.store.journal.geo) (λ committed held. Kept (F.printed store.old.print) store.new.store (R.world rig.new) committed held)
-        (λ lines. CountsFaults lines (R.counts rig.old) (R.counts rig.new)) c s (a_write address block.now) written text.new) }
+        (λ lines. Pays (CostsLines store.old.store store.new.store) (R.counts rig.old) (R.counts rig.new) lines 0) c s (a_write address block.now) written text.new) }
     ensures halt { R.tells → (c s : State) → Kept (F.printed store.old.print) store.old.store (R.world rig.old) c s
-        → IfErr result (λ halt. AllStandForEither (StandsBy (F.printed store.old.print)) c s (R.world rig.new)) }
+        → IfErr result (λ halt. AllStandForEither (StandsBy (F.printed store.old.print)) c s (R.world rig.new) × CostsLines store.old.store store.new.store [] 1 (R.counts rig.old) (R.counts rig.new)) }
     ensures cause { IfErr result (λ halt. HaltsByDevice (λ device. Unit {0}) halt (R.counts rig.old) (R.counts rig.new)) }
     ensures said { R.tells → (R.world rig.new).said ≡ (R.world rig.old).said }
     ensures room { IfOk result (λ written. written.size ≤ reply_room) }
@@ -126,9 +127,9 @@ fn write_flushed<F: Fingerprint, L: Lists, R: Rig>(
         → Elapses (R.clock rig.old) (R.clock rig.new) (WithinCall (StandsBy (F.printed store.old.print)) c s (R.world rig.old)) }
     ensures answer { R.tells → (c s : State) → Kept (F.printed store.old.print) store.old.store (R.world rig.old) c s
         → IfOk result (λ written. WritesLine (F.printed store.old.print) (sizes_of store.old.store.journal.geo) (λ committed held. Kept (F.printed store.old.print) store.new.store (R.world rig.new) committed held)
-        (λ lines. CountsFaults lines (R.counts rig.old) (R.counts rig.new)) c s a_flush written text.new) }
+        (λ lines. Pays (CostsLines store.old.store store.new.store) (R.counts rig.old) (R.counts rig.new) lines 0) c s a_flush written text.new) }
     ensures halt { R.tells → (c s : State) → Kept (F.printed store.old.print) store.old.store (R.world rig.old) c s
-        → IfErr result (λ halt. AllStandForEither (StandsBy (F.printed store.old.print)) c s (R.world rig.new)) }
+        → IfErr result (λ halt. AllStandForEither (StandsBy (F.printed store.old.print)) c s (R.world rig.new) × CostsLines store.old.store store.new.store [] 1 (R.counts rig.old) (R.counts rig.new)) }
     ensures cause { IfErr result (λ halt. HaltsByDevice (λ device. Unit {0}) halt (R.counts rig.old) (R.counts rig.new)) }
     ensures said { R.tells → (R.world rig.new).said ≡ (R.world rig.old).said }
     ensures room { IfOk result (λ written. written.size ≤ reply_room) }
@@ -158,9 +159,9 @@ fn write_bye<F: Fingerprint, L: Lists, R: Rig>(
         → Elapses (R.clock rig.old) (R.clock rig.new) (WithinCall (StandsBy (F.printed store.old.print)) c s (R.world rig.old)) }
     ensures answer { R.tells → (c s : State) → Kept (F.printed store.old.print) store.old.store (R.world rig.old) c s
         → IfOk result (λ written. WritesLine (F.printed store.old.print) (sizes_of store.old.store.journal.geo) (λ committed held. Kept (F.printed store.old.print) store.new.store (R.world rig.new) committed held)
-        (λ lines. CountsFaults lines (R.counts rig.old) (R.counts rig.new)) c s a_quit written text.new) }
+        (λ lines. Pays (CostsLines store.old.store store.new.store) (R.counts rig.old) (R.counts rig.new) lines 0) c s a_quit written text.new) }
     ensures halt { R.tells → (c s : State) → Kept (F.printed store.old.print) store.old.store (R.world rig.old) c s
-        → IfErr result (λ halt. AllStandForEither (StandsBy (F.printed store.old.print)) c s (R.world rig.new)) }
+        → IfErr result (λ halt. AllStandForEither (StandsBy (F.printed store.old.print)) c s (R.world rig.new) × CostsLines store.old.store store.new.store [] 1 (R.counts rig.old) (R.counts rig.new)) }
     ensures cause { IfErr result (λ halt. HaltsByDevice (λ device. Unit {0}) halt (R.counts rig.old) (R.counts rig.new)) }
     ensures said { R.tells → (R.world rig.new).said ≡ (R.world rig.old).said }
     ensures room { IfOk result (λ written. written.size ≤ reply_room) }
@@ -190,9 +191,9 @@ fn write_cleaned<F: Fingerprint, L: Lists, R: Rig>(
         → Elapses (R.clock rig.old) (R.clock rig.new) (WithinCall (StandsBy (F.printed store.old.print)) c s (R.world rig.old)) }
     ensures answer { R.tells → (c s : State) → Kept (F.printed store.old.print) store.old.store (R.world rig.old) c s
         → IfOk result (λ written. WritesLine (F.printed store.old.print) (sizes_of store.old.store.journal.geo) (λ committed held. Kept (F.printed store.old.print) store.new.store (R.world rig.new) committed held)
-        (λ lines. CountsFaults lines (R.counts rig.old) (R.counts rig.new)) c s a_clean written text.new) }
+        (λ lines. Pays (CostsLines store.old.store store.new.store) (R.counts rig.old) (R.counts rig.new) lines 0) c s a_clean written text.new) }
     ensures halt { R.tells → (c s : State) → Kept (F.printed store.old.print) store.old.store (R.world rig.old) c s
-        → IfErr result (λ halt. AllStandForEither (StandsBy (F.printed store.old.print)) c s (R.world rig.new)) }
+        → IfErr result (λ halt. AllStandForEither (StandsBy (F.printed store.old.print)) c s (R.world rig.new) × CostsLines store.old.store store.new.store [] 1 (R.counts rig.old) (R.counts rig.new)) }
     ensures cause { IfErr result (λ halt. HaltsByDevice (λ device. Unit {0}) halt (R.counts rig.old) (R.counts rig.new)) }
     ensures said { R.tells → (R.world rig.new).said ≡ (R.world rig.old).said }
     ensures room { IfOk result (λ written. written.size ≤ reply_room) }
@@ -222,9 +223,9 @@ fn write_ticked<F: Fingerprint, L: Lists, R: Rig>(
         → Elapses (R.clock rig.old) (R.clock rig.new) (WithinCall (StandsBy (F.printed store.old.print)) c s (R.world rig.old)) }
     ensures answer { R.tells → (c s : State) → Kept (F.printed store.old.print) store.old.store (R.world rig.old) c s
         → IfOk result (λ written. WritesLine (F.printed store.old.print) (sizes_of store.old.store.journal.geo) (λ committed held. Kept (F.printed store.old.print) store.new.store (R.world rig.new) committed held)
-        (λ lines. CountsFaults lines (R.counts rig.old) (R.counts rig.new)) c s a_tick written text.new) }
+        (λ lines. Pays (CostsLines store.old.store store.new.store) (R.counts rig.old) (R.counts rig.new) lines 0) c s a_tick written text.new) }
     ensures halt { R.tells → (c s : State) → Kept (F.printed store.old.print) store.old.store (R.world rig.old) c s
-        → IfErr result (λ halt. AllStandForEither (StandsBy (F.printed store.old.print)) c s (R.world rig.new)) }
+        → IfErr result (λ halt. AllStandForEither (StandsBy (F.printed store.old.print)) c s (R.world rig.new) × CostsLines store.old.store store.new.store [] 1 (R.counts rig.old) (R.counts rig.new)) }
     ensures cause { IfErr result (λ halt. HaltsByDevice (λ device. Unit {0}) halt (R.counts rig.old) (R.counts rig.new)) }
     ensures said { R.tells → (R.world rig.new).said ≡ (R.world rig.old).said }
     ensures room { IfOk result (λ written. written.size ≤ reply_room) }
@@ -272,9 +273,9 @@ pub fn write_answer<F: Fingerprint, L: Lists, R: Rig>(
         → Elapses (R.clock rig.old) (R.clock rig.new) (WithinCall (StandsBy (F.printed store.old.print)) c s (R.world rig.old)) }
     ensures answer { R.tells → (c s : State) → Kept (F.printed store.old.print) store.old.store (R.world rig.old) c s
         → IfOk result (λ written. WritesAnswer (F.printed store.old.print) (sizes_of store.old.store.journal.geo) (λ committed held. Kept (F.printed store.old.print) store.new.store (R.world rig.new) committed held)
-        (λ lines. CountsFaults lines (R.counts rig.old) (R.counts rig.new)) c s (told block.old line) written text.new) }
+        (λ lines. Pays (CostsLines store.old.store store.new.store) (R.counts rig.old) (R.counts rig.new) lines 0) c s (told block.old line) written text.new) }
     ensures halt { R.tells → (c s : State) → Kept (F.printed store.old.print) store.old.store (R.world rig.old) c s
-        → IfErr result (λ halt. AllStandForEither (StandsBy (F.printed store.old.print)) c s (R.world rig.new)) }
+        → IfErr result (λ halt. AllStandForEither (StandsBy (F.printed store.old.print)) c s (R.world rig.new) × CostsLines store.old.store store.new.store [] 1 (R.counts rig.old) (R.counts rig.new)) }
     ensures cause { IfErr result (λ halt. HaltsByDevice (λ device. Unit {0}) halt (R.counts rig.old) (R.counts rig.new)) }
     ensures said { R.tells → (R.world rig.new).said ≡ (R.world rig.old).said }
     ensures room { IfOk result (λ written. IfSome written (λ w. w.size ≤ reply_room)) }
