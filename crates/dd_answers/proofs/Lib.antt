@@ -1,3 +1,4 @@
+pub mod Costs
 pub mod Stepping
 pub mod Replying
 pub mod Finishing

@@ -169,10 +169,10 @@ told_by print sizes KeptNow PaidNow c s block line known command written text is
     subst (λ (l : Line). WritesAnswer print sizes KeptNow PaidNow c s (told block l) (Some written) text) (sym is)
     (subst (λ (o : Option Command). WritesAnswer print sizes KeptNow PaidNow c s o (Some written) text) (sym says) w)
 
--- what an answer is by one account, it is by another
-module _ (print : List ℕ → Fp) (sizes : Sizes) (KeptThen KeptNow : (committed held : State) → Type 0) (PaidThen PaidNow : List (List ℕ) → Type 0)
-    (keeps : (one another : State) → KeptThen one another → KeptNow one another) (pays : (lines : List (List ℕ)) → PaidThen lines → PaidNow lines) (c s : State) where
-  line_by : (command : Command) (written : Written) (text : List ℕ) → WritesLine print sizes KeptThen PaidThen c s command written text → WritesLine print sizes KeptNow PaidNow c s command written text
+-- what an answer keeps by one account, it keeps by another
+module _ (print : List ℕ → Fp) (sizes : Sizes) (KeptThen KeptNow : (committed held : State) → Type 0) (Paid : List (List ℕ) → Type 0)
+    (keeps : (one another : State) → KeptThen one another → KeptNow one another) (c s : State) where
+  line_by : (command : Command) (written : Written) (text : List ℕ) → WritesLine print sizes KeptThen Paid c s command written text → WritesLine print sizes KeptNow Paid c s command written text
   line_by command written text w = (
     w.0,
     w.1,
@@ -184,17 +184,17 @@ module _ (print : List ℕ → Fp) (sizes : Sizes) (KeptThen KeptNow : (committe
       either = w.2.either;
       sure = w.2.sure;
       kept = keeps w.2.committed _ w.2.kept;
-      paid = pays (w.0 ∷ []) w.2.paid;
+      paid = w.2.paid;
     },
   )
 
-  answer_by : (o : Option Command) (written : Option Written) (text : List ℕ) → WritesAnswer print sizes KeptThen PaidThen c s o written text → WritesAnswer print sizes KeptNow PaidNow c s o written text
-  answer_by None None text w = (keeps c s w.0, pays [] w.1)
+  answer_by : (o : Option Command) (written : Option Written) (text : List ℕ) → WritesAnswer print sizes KeptThen Paid c s o written text → WritesAnswer print sizes KeptNow Paid c s o written text
+  answer_by None None text w = (keeps c s w.0, w.1)
   answer_by None (Some written) text w = absurd w
   answer_by (Some command) None text w = absurd w
   answer_by (Some command) (Some written) text w = line_by command written text w
 
-  pub answers_by : (o : Option Command) (result : Result (Option Written) Halt) (text : List ℕ) → IfOk result (λ written. WritesAnswer print sizes KeptThen PaidThen c s o written text)
-      → IfOk result (λ written. WritesAnswer print sizes KeptNow PaidNow c s o written text)
+  pub answers_by : (o : Option Command) (result : Result (Option Written) Halt) (text : List ℕ) → IfOk result (λ written. WritesAnswer print sizes KeptThen Paid c s o written text)
+      → IfOk result (λ written. WritesAnswer print sizes KeptNow Paid c s o written text)
   answers_by o (Ok written) text w = answer_by o written text w
   answers_by o (Err halt) text w = tt

@@ -4,7 +4,8 @@ use Rattle.dd_script.specs.Command.{read as a_read, write as a_write, flush as a
 use Rattle.dd_script.specs.declared.line.Line.TheVariants as line_is
 use Rattle.dd_store.specs.Keeping.{Kept}
 use Rattle.dd_store.specs.Meaning.{sizes_of}
-use Rattle.dd_loop.specs.Answering.{CountsFaults}
+use Rattle.dd_loop.specs.Answering.{Pays}
+use Rattle.dd_answers.specs.Costs.{CostsLines}
 use Rattle.dd_answers.proofs.Replying.{told_by}
 use Rattle.dd_answers.proofs.lines.write_answer.Goals as goal
 
@@ -12,40 +13,40 @@ pub returns-in_ok-write_read-in-Read-clause-answer : goal.returns-in_ok-write_re
 returns-in_ok-write_read-in-Read-clause-answer g c = λ t one s kept.
     let printed = g.F.Fingerprint.printed c.args.store.now.print in
     told_by printed (sizes_of c.args.store.now.store.journal.geo) (λ committed held. Kept printed c.write_read.new.store.store (g.R.Rig.world c.write_read.new.rig) committed held)
-    (λ lines. CountsFaults lines (g.R.Rig.counts c.args.rig.now) (g.R.Rig.counts c.write_read.new.rig)) one s c.args.block.now c.args.line (line_is.Read c.in-Read.address) (a_read c.in-Read.address) c.in_ok-write_read-in-Read.field-0 c.write_read.new.text c.in-Read.is refl
+    (λ lines. Pays (CostsLines c.args.store.now.store c.write_read.new.store.store) (g.R.Rig.counts c.args.rig.now) (g.R.Rig.counts c.write_read.new.rig) lines 0) one s c.args.block.now c.args.line (line_is.Read c.in-Read.address) (a_read c.in-Read.address) c.in_ok-write_read-in-Read.field-0 c.write_read.new.text c.in-Read.is refl
     (c.in_ok-write_read-in-Read.ensures.answer t one s kept)
 
 pub returns-in_ok-write_write-in-Write-clause-answer : goal.returns-in_ok-write_write-in-Write-clause-answer
 returns-in_ok-write_write-in-Write-clause-answer g c = λ t one s kept.
     let printed = g.F.Fingerprint.printed c.args.store.now.print in
     told_by printed (sizes_of c.args.store.now.store.journal.geo) (λ committed held. Kept printed c.write_write.new.store.store (g.R.Rig.world c.write_write.new.rig) committed held)
-    (λ lines. CountsFaults lines (g.R.Rig.counts c.args.rig.now) (g.R.Rig.counts c.write_write.new.rig)) one s c.args.block.now c.args.line (line_is.Write c.in-Write.address) (a_write c.in-Write.address c.args.block.now) c.in_ok-write_write-in-Write.field-0 c.write_write.new.text c.in-Write.is refl
+    (λ lines. Pays (CostsLines c.args.store.now.store c.write_write.new.store.store) (g.R.Rig.counts c.args.rig.now) (g.R.Rig.counts c.write_write.new.rig) lines 0) one s c.args.block.now c.args.line (line_is.Write c.in-Write.address) (a_write c.in-Write.address c.args.block.now) c.in_ok-write_write-in-Write.field-0 c.write_write.new.text c.in-Write.is refl
     (c.in_ok-write_write-in-Write.ensures.answer t one s kept)
 
 pub returns-in_ok-write_flushed-in-Flush-clause-answer : goal.returns-in_ok-write_flushed-in-Flush-clause-answer
 returns-in_ok-write_flushed-in-Flush-clause-answer g c = λ t one s kept.
     let printed = g.F.Fingerprint.printed c.args.store.now.print in
     told_by printed (sizes_of c.args.store.now.store.journal.geo) (λ committed held. Kept printed c.write_flushed.new.store.store (g.R.Rig.world c.write_flushed.new.rig) committed held)
-    (λ lines. CountsFaults lines (g.R.Rig.counts c.args.rig.now) (g.R.Rig.counts c.write_flushed.new.rig)) one s c.args.block.now c.args.line line_is.Flush a_flush c.in_ok-write_flushed-in-Flush.field-0 c.write_flushed.new.text c.in-Flush.is refl
+    (λ lines. Pays (CostsLines c.args.store.now.store c.write_flushed.new.store.store) (g.R.Rig.counts c.args.rig.now) (g.R.Rig.counts c.write_flushed.new.rig) lines 0) one s c.args.block.now c.args.line line_is.Flush a_flush c.in_ok-write_flushed-in-Flush.field-0 c.write_flushed.new.text c.in-Flush.is refl
     (c.in_ok-write_flushed-in-Flush.ensures.answer t one s kept)
 
 pub returns-in_ok-write_cleaned-in-Clean-clause-answer : goal.returns-in_ok-write_cleaned-in-Clean-clause-answer
 returns-in_ok-write_cleaned-in-Clean-clause-answer g c = λ t one s kept.
     let printed = g.F.Fingerprint.printed c.args.store.now.print in
     told_by printed (sizes_of c.args.store.now.store.journal.geo) (λ committed held. Kept printed c.write_cleaned.new.store.store (g.R.Rig.world c.write_cleaned.new.rig) committed held)
-    (λ lines. CountsFaults lines (g.R.Rig.counts c.args.rig.now) (g.R.Rig.counts c.write_cleaned.new.rig)) one s c.args.block.now c.args.line line_is.Clean a_clean c.in_ok-write_cleaned-in-Clean.field-0 c.write_cleaned.new.text c.in-Clean.is refl
+    (λ lines. Pays (CostsLines c.args.store.now.store c.write_cleaned.new.store.store) (g.R.Rig.counts c.args.rig.now) (g.R.Rig.counts c.write_cleaned.new.rig) lines 0) one s c.args.block.now c.args.line line_is.Clean a_clean c.in_ok-write_cleaned-in-Clean.field-0 c.write_cleaned.new.text c.in-Clean.is refl
     (c.in_ok-write_cleaned-in-Clean.ensures.answer t one s kept)
 
 pub returns-in_ok-write_ticked-in-Tick-clause-answer : goal.returns-in_ok-write_ticked-in-Tick-clause-answer
 returns-in_ok-write_ticked-in-Tick-clause-answer g c = λ t one s kept.
     let printed = g.F.Fingerprint.printed c.args.store.now.print in
     told_by printed (sizes_of c.args.store.now.store.journal.geo) (λ committed held. Kept printed c.write_ticked.new.store.store (g.R.Rig.world c.write_ticked.new.rig) committed held)
-    (λ lines. CountsFaults lines (g.R.Rig.counts c.args.rig.now) (g.R.Rig.counts c.write_ticked.new.rig)) one s c.args.block.now c.args.line line_is.Tick a_tick c.in_ok-write_ticked-in-Tick.field-0 c.write_ticked.new.text c.in-Tick.is refl
+    (λ lines. Pays (CostsLines c.args.store.now.store c.write_ticked.new.store.store) (g.R.Rig.counts c.args.rig.now) (g.R.Rig.counts c.write_ticked.new.rig) lines 0) one s c.args.block.now c.args.line line_is.Tick a_tick c.in_ok-write_ticked-in-Tick.field-0 c.write_ticked.new.text c.in-Tick.is refl
     (c.in_ok-write_ticked-in-Tick.ensures.answer t one s kept)
 
 pub returns-in_ok-write_bye-in-Quit-clause-answer : goal.returns-in_ok-write_bye-in-Quit-clause-answer
 returns-in_ok-write_bye-in-Quit-clause-answer g c = λ t one s kept.
     let printed = g.F.Fingerprint.printed c.args.store.now.print in
     told_by printed (sizes_of c.args.store.now.store.journal.geo) (λ committed held. Kept printed c.write_bye.new.store.store (g.R.Rig.world c.write_bye.new.rig) committed held)
-    (λ lines. CountsFaults lines (g.R.Rig.counts c.args.rig.now) (g.R.Rig.counts c.write_bye.new.rig)) one s c.args.block.now c.args.line line_is.Quit a_quit c.in_ok-write_bye-in-Quit.field-0 c.write_bye.new.text c.in-Quit.is refl
+    (λ lines. Pays (CostsLines c.args.store.now.store c.write_bye.new.store.store) (g.R.Rig.counts c.args.rig.now) (g.R.Rig.counts c.write_bye.new.rig) lines 0) one s c.args.block.now c.args.line line_is.Quit a_quit c.in_ok-write_bye-in-Quit.field-0 c.write_bye.new.text c.in-Quit.is refl
     (c.in_ok-write_bye-in-Quit.ensures.answer t one s kept)

@@ -1,8 +1,11 @@
-use Rattle.std.proofs.Common.{rules, ◌≡◌, inl, inr, ℕ, refl, sym, ◌∙◌}
+use Rattle.std.proofs.Common.{rules, ◌≡◌, inl, inr, ℕ, length, refl, sym, ◌∙◌, ap, subst, arith}
 use Rattle.std.specs.Prelude.{Option}
 use Rattle.dd_model.specs.declared.done.Done.{Done}
 use Rattle.dd_script.specs.Command.{read as a_read, write as a_write, flush as a_flush, clean as a_clean, tick as a_tick, quit as a_quit, after}
+use Rattle.dd_store.specs.Keeping.{StoreView}
 use Rattle.dd_store.specs.Meaning.{sizes_of}
+use Rattle.dd_answers.specs.Costs.{CostsLines}
+use Rattle.dd_answers.proofs.Costs.{begun_costs, bye_costs, no_disk, no_read}
 use Rattle.dd_answers.proofs.Replying.{within_call, replies_bye, tells_fault, halts_either}
 use Rattle.dd_answers.proofs.lines.write_bye.Goals as goal
 
@@ -15,13 +18,15 @@ returns-in-Err-clause-crash g c = λ t one s kept. within_call (g.F.Fingerprint.
 pub returns-in-Ok-clause-answer : goal.returns-in-Ok-clause-answer
 returns-in-Ok-clause-answer g c = λ t one s kept.
     let now = c.in-Ok.ensures.committed t one s kept in
-    (_, c.write_reply.ensures.text, replies_bye (g.F.Fingerprint.printed c.args.store.now.print) (sizes_of c.args.store.now.store.journal.geo) c.flush.new.self.store (g.R.Rig.world c.flush.new.rig) (g.R.Rig.counts c.args.rig.now) (g.R.Rig.counts c.flush.new.rig) c.flush.ensures.frame.0 one s c.in-Ok.count (search rules) c.write_reply.ensures.line (c.in-Ok.ensures.count.0 ∙ sym kept.holds.means.lists.counted) now)
+    (_, c.write_reply.ensures.text, replies_bye (g.F.Fingerprint.printed c.args.store.now.print) (sizes_of c.args.store.now.store.journal.geo) c.flush.new.self.store (g.R.Rig.world c.flush.new.rig) (CostsLines c.args.store.now.store c.flush.new.self.store) (g.R.Rig.counts c.args.rig.now) (g.R.Rig.counts c.flush.new.rig) c.flush.ensures.frame.0 one s c.in-Ok.count (search rules) c.write_reply.ensures.line (c.in-Ok.ensures.count.0 ∙ sym kept.holds.means.lists.counted) now
+    (bye_costs c.args.store.now.store c.flush.new.self.store (g.R.Rig.counts c.args.rig.now) (g.R.Rig.counts c.flush.new.rig) c.flush.ensures.frame.0 c.flush.ensures.grows.same_geo c.in-Ok.count (omega (arith, ap (λ (v : StoreView). length v.dirty) c.in-Ok.ensures.store)) (no_disk _ _ _ _ _ _ c.flush.ensures.calls c.flush.ensures.snapshot_calls)))
 
 pub returns-in-Err-clause-answer : goal.returns-in-Err-clause-answer
 returns-in-Err-clause-answer g c = λ t one s kept.
-    tells_fault (g.F.Fingerprint.printed c.args.store.now.print) (sizes_of c.args.store.now.store.journal.geo) c.flush.new.self.store (g.R.Rig.world c.flush.new.rig) (g.R.Rig.counts c.args.rig.now) (g.R.Rig.counts c.flush.new.rig) c.flush.ensures.frame.0 one s ℕ a_quit s c.in-Err.fault c.write_fault.result c.write_fault.new.text (λ e. absurd (cc (e, c.in-Err.ensures.fault))) (λ e. absurd (cc (e, c.in-Err.ensures.fault))) c.write_fault.ensures.line
+    tells_fault (g.F.Fingerprint.printed c.args.store.now.print) (sizes_of c.args.store.now.store.journal.geo) c.flush.new.self.store (g.R.Rig.world c.flush.new.rig) (CostsLines c.args.store.now.store c.flush.new.self.store) (g.R.Rig.counts c.args.rig.now) (g.R.Rig.counts c.flush.new.rig) c.flush.ensures.frame.0 one s ℕ a_quit s c.in-Err.fault c.write_fault.result c.write_fault.new.text (λ e. absurd (cc (e, c.in-Err.ensures.fault))) (λ e. absurd (cc (e, c.in-Err.ensures.fault))) c.write_fault.ensures.line
     (c.in-Err.ensures.serves t one s kept).leaves c.in-Err.ensures.cause
+    (λ is. absurd (no_read c.in-Err.fault c.in-Err.ensures.fault is))
 
 pub returns-in-Err-clause-halt : goal.returns-in-Err-clause-halt
 returns-in-Err-clause-halt g c = λ t one s kept.
-    halts_either ℕ (g.F.Fingerprint.printed c.args.store.now.print) one s s c.flush.new.self.store (g.R.Rig.world c.flush.new.rig) c.in-Err.fault c.write_fault.result c.write_fault.new.text c.write_fault.ensures.line (c.in-Err.ensures.serves t one s kept).leaves
+    halts_either ℕ (g.F.Fingerprint.printed c.args.store.now.print) one s s c.flush.new.self.store (g.R.Rig.world c.flush.new.rig) _ (begun_costs c.args.store.now.store c.flush.new.self.store (g.R.Rig.counts c.args.rig.now) (g.R.Rig.counts c.flush.new.rig) c.flush.ensures.frame.0 c.flush.ensures.grows.same_geo) c.in-Err.fault c.write_fault.result c.write_fault.new.text c.write_fault.ensures.line (c.in-Err.ensures.serves t one s kept).leaves

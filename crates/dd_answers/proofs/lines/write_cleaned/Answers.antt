@@ -1,8 +1,11 @@
-use Rattle.std.proofs.Common.{rules, ◌≡◌, inl, inr, ℕ, refl, sym, ◌∙◌}
+use Rattle.std.proofs.Common.{rules, ◌≡◌, inl, inr, ℕ, length, refl, sym, ◌∙◌, ap, subst, arith}
 use Rattle.std.specs.Prelude.{Option}
 use Rattle.dd_model.specs.declared.done.Done.{Done}
 use Rattle.dd_script.specs.Command.{read as a_read, write as a_write, flush as a_flush, clean as a_clean, tick as a_tick, quit as a_quit, after}
+use Rattle.dd_store.specs.Keeping.{StoreView}
 use Rattle.dd_store.specs.Meaning.{sizes_of}
+use Rattle.dd_answers.specs.Costs.{CostsLines}
+use Rattle.dd_answers.proofs.Costs.{begun_costs, cleaned_costs, cleans_by, fault_costs}
 use Rattle.dd_answers.proofs.Replying.{within_call, replies_clean, tells_fault, halts_either}
 use Rattle.dd_answers.proofs.lines.write_cleaned.Goals as goal
 
@@ -14,13 +17,15 @@ returns-in-Err-clause-crash g c = λ t one s kept. within_call (g.F.Fingerprint.
 
 pub returns-in-Ok-clause-answer : goal.returns-in-Ok-clause-answer
 returns-in-Ok-clause-answer g c = λ t one s kept.
-    (_, c.write_reply.ensures.text, replies_clean (g.F.Fingerprint.printed c.args.store.now.print) (sizes_of c.args.store.now.store.journal.geo) c.clean.new.self.store (g.R.Rig.world c.clean.new.rig) (g.R.Rig.counts c.args.rig.now) (g.R.Rig.counts c.clean.new.rig) c.clean.ensures.frame.0 one s c.write_reply.ensures.line (c.in-Ok.ensures.serves t one s kept).leaves)
+    (_, c.write_reply.ensures.text, replies_clean (g.F.Fingerprint.printed c.args.store.now.print) (sizes_of c.args.store.now.store.journal.geo) c.clean.new.self.store (g.R.Rig.world c.clean.new.rig) (CostsLines c.args.store.now.store c.clean.new.self.store) (g.R.Rig.counts c.args.rig.now) (g.R.Rig.counts c.clean.new.rig) c.clean.ensures.frame.0 one s c.write_reply.ensures.line (c.in-Ok.ensures.serves t one s kept).leaves
+    (cleaned_costs c.args.store.now.store c.clean.new.self.store (g.R.Rig.counts c.args.rig.now) (g.R.Rig.counts c.clean.new.rig) c.clean.ensures.frame.0 c.clean.ensures.grows.same_geo c.in-Ok.ensures.none c.in-Ok.ensures.loads))
 
 pub returns-in-Err-clause-answer : goal.returns-in-Err-clause-answer
 returns-in-Err-clause-answer g c = λ t one s kept.
-    tells_fault (g.F.Fingerprint.printed c.args.store.now.print) (sizes_of c.args.store.now.store.journal.geo) c.clean.new.self.store (g.R.Rig.world c.clean.new.rig) (g.R.Rig.counts c.args.rig.now) (g.R.Rig.counts c.clean.new.rig) c.clean.ensures.frame.0 one s Unit a_clean s c.in-Err.fault c.write_fault.result c.write_fault.new.text (λ e. refl) (λ e. absurd (c.in-Err.ensures.fault e)) c.write_fault.ensures.line
+    tells_fault (g.F.Fingerprint.printed c.args.store.now.print) (sizes_of c.args.store.now.store.journal.geo) c.clean.new.self.store (g.R.Rig.world c.clean.new.rig) (CostsLines c.args.store.now.store c.clean.new.self.store) (g.R.Rig.counts c.args.rig.now) (g.R.Rig.counts c.clean.new.rig) c.clean.ensures.frame.0 one s Unit a_clean s c.in-Err.fault c.write_fault.result c.write_fault.new.text (λ e. refl) (λ e. absurd (c.in-Err.ensures.fault e)) c.write_fault.ensures.line
     (c.in-Err.ensures.serves t one s kept).leaves c.in-Err.ensures.cause
+    (λ is device. fault_costs c.args.store.now.store c.clean.new.self.store (g.R.Rig.counts c.args.rig.now) (g.R.Rig.counts c.clean.new.rig) c.clean.ensures.frame.0 c.clean.ensures.grows.same_geo device (omega (arith, (cleans_by _ c.in-Err.fault c.in-Err.ensures.fault c.in-Err.ensures.failed is).fewer)))
 
 pub returns-in-Err-clause-halt : goal.returns-in-Err-clause-halt
 returns-in-Err-clause-halt g c = λ t one s kept.
-    halts_either Unit (g.F.Fingerprint.printed c.args.store.now.print) one s s c.clean.new.self.store (g.R.Rig.world c.clean.new.rig) c.in-Err.fault c.write_fault.result c.write_fault.new.text c.write_fault.ensures.line (c.in-Err.ensures.serves t one s kept).leaves
+    halts_either Unit (g.F.Fingerprint.printed c.args.store.now.print) one s s c.clean.new.self.store (g.R.Rig.world c.clean.new.rig) _ (begun_costs c.args.store.now.store c.clean.new.self.store (g.R.Rig.counts c.args.rig.now) (g.R.Rig.counts c.clean.new.rig) c.clean.ensures.frame.0 c.clean.ensures.grows.same_geo) c.in-Err.fault c.write_fault.result c.write_fault.new.text c.write_fault.ensures.line (c.in-Err.ensures.serves t one s kept).leaves

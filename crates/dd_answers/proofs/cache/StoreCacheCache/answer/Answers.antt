@@ -4,10 +4,9 @@ use Rattle.dd_model.specs.State.{State}
 use Rattle.dd_script.specs.Line.{told}
 use Rattle.dd_store.specs.Keeping.{Kept}
 use Rattle.dd_store.specs.Meaning.{sizes_of}
-use Rattle.dd_loop.specs.Answering.{CountsFaults, Pays}
-use Rattle.dd_loop.specs.Standing.{AllStandForEither}
-use Rattle.dd_answers.specs.Answering.{StandsBy}
-use Rattle.dd_answers.proofs.Replying.{answers_by, halts_and}
+use Rattle.dd_loop.specs.Answering.{Pays}
+use Rattle.dd_answers.specs.Costs.{CostsLines}
+use Rattle.dd_answers.proofs.Replying.{answers_by}
 use Rattle.dd_answers.proofs.cache.StoreCacheCache.answer.Goals as goal
 
 pub returns-clause-crash : goal.returns-clause-crash
@@ -22,10 +21,6 @@ returns-clause-answer g c = λ t first one s kept.
     let before = g.R.Rig.counts c.args.rig.now in
     let end = g.R.Rig.counts c.write_answer.new.rig in
     answers_by printed (sizes_of c.args.self.now.store.store.journal.geo) (λ committed held. Kept printed new world committed held) (λ committed held. Kept printed_now new world committed held)
-    (λ lines. CountsFaults lines before end) (λ lines. Pays (λ ls more p q. Unit {0}) before end lines 0)
-    (λ a b k. subst (λ (p : List ℕ → Fp). Kept p new world a b) (ap g.F.Fingerprint.printed (sym c.write_answer.ensures.same.0)) k) (λ lines p. (tt, p)) one s
+    (λ lines. Pays (CostsLines c.args.self.now.store.store new) before end lines 0)
+    (λ a b k. subst (λ (p : List ℕ → Fp). Kept p new world a b) (ap g.F.Fingerprint.printed (sym c.write_answer.ensures.same.0)) k) one s
     (told c.args.block.now c.args.line) c.write_answer.result c.write_answer.new.text (c.write_answer.ensures.answer t one s kept)
-
-pub returns-clause-halt : goal.returns-clause-halt
-returns-clause-halt g c = λ t first one s kept.
-    halts_and (Unit {0}) tt c.write_answer.result (AllStandForEither (StandsBy (g.F.Fingerprint.printed c.args.self.now.store.print)) one s (g.R.Rig.world c.write_answer.new.rig)) (c.write_answer.ensures.halt t one s kept)
