@@ -6,10 +6,9 @@ use Rattle.dd_block.specs.declared.print.Fp.{Fp}
 use Rattle.dd_block.specs.declared.geometry.Geometry.{Geometry}
 use Rattle.dd_rig.specs.declared.device.Dev.{Dev}
 use Rattle.dd_rig.specs.declared.device.Dev.TheVariants as dev
-use Rattle.dd_rig.specs.declared.tallies.Calls.{Calls}
 use Rattle.dd_rig.specs.declared.tallies.Counts.{Counts}
 use Rattle.dd_rig.specs.Clock.{Clock, Elapses, AddsNone}
-use Rattle.dd_rig.specs.Counts.{CalledAtMost, IsQuiet, IsStill, Makes, NeverFalls, Quota, Rose}
+use Rattle.dd_rig.specs.Counts.{IsQuiet, IsStill, Makes, NeverFalls, Quota, Rose, up_to}
 use Rattle.dd_rig.specs.Device.{Device, IsImage}
 use Rattle.dd_rig.specs.World.{World, Outcome, IsOwn, MayLeave, WithinEmit, shown}
 use Rattle.dd_rig.proofs.Moments.{goes_on, widens}
@@ -29,13 +28,14 @@ use Rattle.dd_loop.specs.declared.ending.Ending.{Ending}
 use Rattle.dd_loop.specs.declared.ending.Ending.TheVariants.{Served, Refused, Stopped, Unheard}
 use Rattle.dd_loop.specs.declared.halt.Halt.TheVariants as halts
 use Rattle.dd_loop.specs.Ending.{ending_line, refused_status, status_of, stopped_status, SaysLast, WithinLast}
-use Rattle.dd_loop.specs.Saying.{EndsIn, IsIdle, SaysAlone}
+use Rattle.dd_loop.specs.Saying.{EndsIn, SaysAlone}
 use Rattle.dd_loop.specs.Serving.{ServedUpTo}
 use Rattle.dd_loop.proofs.Reading.{commands_some}
 use Rattle.dd_store.specs.Serving.{StoreOf}
 use Rattle.dd_answers.specs.Headline.{IsUnopened}
 use Rattle.dd_answers.specs.Opening.{ending_of, IsUnserved, Refuses}
-use Rattle.dd_answers.specs.Serving.{Caused, Ends, FaultsPaid, IsBounded, IsServed, LoopEnds, Serves}
+use Rattle.dd_answers.specs.Serving.{Caused, Ends, LinesPaid, IsBounded, IsServed, LoopEnds, Serves}
+use Rattle.dd_answers.specs.Costs.{calls_of}
 use Rattle.dd_answers.proofs.Finishing.{unserved}
 use Rattle.dd_answers.proofs.Lasting.{said_some, serves_stopped}
 
@@ -151,21 +151,6 @@ quiet_fault print printed geo (open_fault.Group region at) new s a b c h rose fa
 quiet_fault print printed geo (open_fault.Worn value) new s a b c h rose falls quiet = absurd h
 quiet_fault print printed geo open_fault.Version1 new s a b c h rose falls quiet = absurd h
 
--- the cause of an ending without an opened store
-pub fault_caused : (opening long : Type 0) → opening → (fault : OpenFault) (a b c : Counts) (m n : ℕ) → OpenFaulted fault a b → NeverFalls b c → Caused opening long (ending_of fault) a c m n
-fault_caused opening long o (open_fault.Memory e) a b c m n rose falls = tt
-fault_caused opening long o open_fault.FlashRead a b c m n rose falls = inr (o, omega (arith, rose, falls.flash.failed_reads))
-fault_caused opening long o open_fault.FlashWrite a b c m n rose falls = inl (omega (arith, rose, falls.flash.failed_writes))
-fault_caused opening long o open_fault.DiskWrite a b c m n rose falls = omega (arith, rose, falls.disk.failed_writes)
-fault_caused opening long o (open_fault.FlashSmall need have) a b c m n rose falls = o
-fault_caused opening long o (open_fault.DiskSmall need have) a b c m n rose falls = o
-fault_caused opening long o (open_fault.Super fault) a b c m n rose falls = o
-fault_caused opening long o open_fault.NoRegion a b c m n rose falls = o
-fault_caused opening long o (open_fault.Snapshot region at) a b c m n rose falls = o
-fault_caused opening long o (open_fault.Group region at) a b c m n rose falls = o
-fault_caused opening long o (open_fault.Worn value) a b c m n rose falls = o
-fault_caused opening long o open_fault.Version1 a b c m n rose falls = o
-
 pub fault_status : (fault : OpenFault) → IsUnserved (status_of (ending_of fault))
 fault_status (open_fault.Memory e) = inr (inl refl)
 fault_status open_fault.FlashRead = inr (inr refl)
@@ -227,20 +212,16 @@ module _ (fault : OpenFault) (s : Stops fault) (old middle : World) (same : midd
       let some = said_some (stop_text s.why) between after middle new says in
       unopened_at s.why old middle some.0 o same (own o.flash o.disk (subst (λ (d : Device). IsImage d o.flash) flash may.flash) (subst (λ (d : Device). IsImage d o.disk) disk may.disk)) (may.out ∙ some.1)
 
-  pub serves_unopened : (print : List ℕ → Fp) (sizes : Sizes) (start : State) (script : List ℕ) (new : World) (before between after : Counts) → NeverFalls before between → NeverFalls between after
-      → SaysLast (ending_line (ending_of fault)) between after middle new → Serves print sizes start script (status_of (ending_of fault)) old new before after
-  serves_unopened print sizes start script new before between after falls more last =
+  pub serves_unopened : (print : List ℕ → Fp) (sizes : Sizes) (start : State) (script : List ℕ) (opening : ℕ) (new : World) (before between after : Counts) → NeverFalls before between → NeverFalls between after
+      → SaysLast (ending_line (ending_of fault)) between after middle new → Serves print sizes start script opening (status_of (ending_of fault)) old new before after
+  serves_unopened print sizes start script opening new before between after falls more last =
       let says : SaysAlone (stop_text s.why) between after middle new = subst (λ (e : Ending). SaysLast (ending_line e) between after middle new) s.is last in
       let StandFor : (flash disk : List ℕ) → State → Type 0 = λ flash disk t. Unit {0} in
       let commands : List Command = commands_of (dialect_of sizes) script in
-      serves_stopped print sizes start script StandFor s.why (status_of (ending_of fault)) old middle new before between after falls more
-      (subst (λ (said : List ℕ). ServedUpTo print sizes StandFor start commands (FaultsPaid before between) (halts.Stopped s.why) said middle) same
-      (unserved print sizes StandFor s.why start commands middle before between (λ flash disk f d. tt) (commands_some (dialect_of sizes) script) falls))
+      serves_stopped print sizes start script opening 0 StandFor s.why (status_of (ending_of fault)) old middle new before between after falls more
+      (subst (λ (said : List ℕ). ServedUpTo print sizes StandFor start commands (LinesPaid 0 before between) (halts.Stopped s.why) said middle) same
+      (unserved 0 print sizes StandFor s.why start commands middle before between (λ flash disk f d. tt) (commands_some (dialect_of sizes) script) falls))
       says (ap status_of s.is) (λ e. absurd (s.short e))
-
--- an idle call adds nothing to what was made
-pub makes_idle : (q r : Quota) (a b c : Counts) → Makes q r a b → IsIdle b c → Makes q r a c
-makes_idle q r a b c makes idle = (subst (λ (x : Calls). CalledAtMost q a.flash x) (sym idle.0) makes.0, subst (λ (x : Calls). CalledAtMost r a.disk x) (sym idle.1) makes.1)
 
 pub by_three : {A B C : Type 0} (P : A → B → C → Type 0) {a x : A} {b y : B} {d z : C} → a ≡ x → b ≡ y → d ≡ z → P a b d → P x y z
 by_three P {a} {x} {b} {y} {d} {z} e f h p = subst (λ (k : _). P x y k) h (subst (λ (k : _). P x k d) f (subst (λ (k : _). P k b d) e p))
@@ -278,22 +259,34 @@ module _ (line : List ℕ) (before between after : Counts) (falls : NeverFalls b
   says_since old middle new same (inl is) = inl (is ∙ ap (λ (l : List ℕ). l ++ ended line) same)
   says_since old middle new same (inr cut) = inr (omega (arith, cut.0, falls.emits), cut.1, cut.2 ∙ ap (λ (l : List ℕ). l ++ take cut.1 (ended line)) same)
 
+-- the opening syncs the disk at most
+pub opened_calls : {flash : Quota} {a b : Counts} → Makes flash (up_to 0 1 0) a b → calls_of b.disk ≤ calls_of a.disk + 1
+opened_calls makes = omega (arith, makes.1.0, makes.1.1.0)
+
 -- what a run says behind calls that say nothing
-pub serves_since : (print : List ℕ → Fp) (sizes : Sizes) (start : State) (script : List ℕ) (status : ℕ) (old middle new : World) (before between after : Counts) → NeverFalls before between → NeverFalls between after → middle.said ≡ old.said
-    → Serves print sizes start script status middle new between after → Serves print sizes start script status old new before after
-serves_since print sizes start script status old middle new before between after falls more same s = record {
+pub serves_since : (print : List ℕ → Fp) (sizes : Sizes) (start : State) (script : List ℕ) (opening : ℕ) (status : ℕ) (old middle new : World) (before between after : Counts) → NeverFalls before between → NeverFalls between after → calls_of between.disk ≤ calls_of before.disk + opening → middle.said ≡ old.said
+    → Serves print sizes start script 0 status middle new between after → Serves print sizes start script opening status old new before after
+serves_since print sizes start script opening status old middle new before between after falls more few same s = record {
   output = s.output;
   said = s.said ∙ ap (λ (l : List ℕ). l ++ s.output) same;
   answers = s.answers;
   whole = λ calm. s.whole (still_behind _ _ _ falls.emits more.emits calm);
   faults = record { flash = omega (arith, s.faults.flash, falls.flash.failed_reads); disk = omega (arith, s.faults.disk, falls.disk.failed_reads) };
+  hits = omega (arith, s.hits, falls.flash.reads);
   ending = s.ending;
   status_is = s.status_is;
   ends = ends_so s.ending s.ends;
 }
   where
-    ends_so : (ending : Ending) → Ends print sizes start script ending s.output between after → Ends print sizes start script ending s.output before after
-    ends_so (Served faulted) ends = ends
+    ends_so : (ending : Ending) → Ends print sizes start script 0 ending s.output new between after → Ends print sizes start script opening ending s.output new before after
+    ends_so (Served faulted) ends = record {
+      all = ends.all;
+      fault = ends.fault;
+      exact = ends.exact;
+      bounded = ends.bounded;
+      calls = λ fine. let little = ends.calls fine in record { loads = omega (arith, few, little.loads); calm = λ calm. omega (arith, few, little.calm calm) };
+      drained = ends.drained;
+    }
     ends_so (Refused why) ends = absurd ends
     ends_so (Stopped why) ends = (ends_since (stop_text why) before between after falls s.output ends.0, ends.1)
     ends_so Unheard ends = tt

@@ -7,15 +7,18 @@ use Rattle.dd_block.specs.declared.print.Fp.{Fp}
 use Rattle.dd_rig.specs.declared.device.Dev.{Dev}
 use Rattle.dd_rig.specs.declared.device.Dev.TheVariants as dev
 use Rattle.dd_rig.specs.declared.tallies.Counts.{Counts}
-use Rattle.dd_rig.specs.Counts.{IsStill, Rose, NeverFalls}
+use Rattle.dd_rig.specs.declared.tallies.Calls.{Calls}
+use Rattle.dd_rig.specs.Counts.{IsStill, Rose, NeverFalls, plus}
 use Rattle.dd_rig.proofs.Falling.{falls_self}
 use Rattle.dd_rig.specs.Device.{Device, IsImage}
 use Rattle.dd_rig.specs.World.{World, Outcome, MayLeave, WithinEmit}
-use Rattle.dd_model.specs.State.{Sizes, State}
+use Rattle.dd_model.specs.State.{Sizes, State, array_of}
 use Rattle.dd_script.specs.declared.reply.Stop.{Stop}
 use Rattle.dd_script.specs.declared.reply.Stop.TheVariants as stop
 use Rattle.dd_script.specs.Answers.{answered_by, faults_in, IsStopped, MayCome, Tell, Answered, AnswersAll}
 use Rattle.dd_script.specs.Command.{Command, after_all}
+use Rattle.dd_script.specs.Counting.{hits_in}
+use Rattle.dd_script.proofs.Counting.{hits_both, stop_counted}
 use Rattle.dd_script.specs.Output.{dialect_of, output_of}
 use Rattle.dd_script.specs.Script.{Lines, lines_of, commands_of}
 use Rattle.dd_script.specs.Text.{HasNoEnd, ended, stop_text}
@@ -35,7 +38,8 @@ use Rattle.dd_loop.proofs.Faults.{counts_both, counts_later}
 use Rattle.dd_loop.proofs.Standing.{prefix_of_lines, stood-snoc, whole_snoc, flat_snoc, front_no_end}
 use Rattle.dd_answers.specs.Answering.{StandsBy}
 use Rattle.dd_answers.specs.Headline.{Headline}
-use Rattle.dd_answers.specs.Serving.{Caused, Ends, FaultsPaid, IsBounded, LoopEnds, Serves}
+use Rattle.dd_answers.specs.Serving.{Caused, Ends, LinesPaid, IsBounded, LoopEnds, Serves}
+use Rattle.dd_answers.specs.Costs.{CallsLittle, HasArrayBehind}
 
 still_emits : (a b c : ℕ) → a ≤ b → IsStill a c → Rose b c → ⊥
 still_emits a b c h still rose = omega (arith, h, still.0, still.1, rose)
@@ -102,6 +106,7 @@ module _ (print : List ℕ → Fp) (sizes : Sizes) (start : State) (commands : L
     out_is : out ≡ said ++ (flat_map ended now ++ rest)
     later : (flash disk : List ℕ) → Stood StandFor print sizes start commands lines flash disk → Stood StandFor print sizes start commands now flash disk
     faults : CountsFaults now before after
+    hits : plus before.flash.reads (hits_in now) ≤ after.flash.reads
 
   may_stop : (s : State) (cs : List Command) (line : List ℕ) → cs ≢ [] → IsStopped line → MayCome print sizes s cs line
   may_stop s [] line some stops = absurd (some refl)
@@ -111,9 +116,9 @@ module _ (print : List ℕ → Fp) (sizes : Sizes) (start : State) (commands : L
   first_of [] some = absurd (some refl)
   first_of (c ∷ cs) some = (c, cs, refl)
 
-  stopping : (StandFor : (flash disk : List ℕ) → State → Type 0) (why : Stop) (n : ℕ) (new : World) (out : List ℕ) (before middle after : Counts) (so : Sofar print sizes StandFor start commands (λ lines. FaultsPaid before middle lines 1) said new)
+  stopping : (listed : ℕ) (StandFor : (flash disk : List ℕ) → State → Type 0) (why : Stop) (n : ℕ) (new : World) (out : List ℕ) (before middle after : Counts) (so : Sofar print sizes StandFor start commands (λ lines. LinesPaid listed before middle lines 1) said new)
       → so.rest ≡ [] → drop (length so.lines) commands ≢ [] → NeverFalls middle after → out ≡ new.said ++ take n (ended (stop_text why)) → Stopping StandFor so.lines out before after
-  stopping StandFor why n new out before middle after so none some falls is =
+  stopping listed StandFor why n new out before middle after so none some falls is =
       let line : List ℕ = stop_text why in
       let was : new.said ≡ said ++ flat_map ended so.lines = so.said ∙ ap (λ (l : List ℕ). said ++ (flat_map ended so.lines ++ l)) none ∙ ap (λ (l : List ℕ). said ++ l) (append-nil (flat_map ended so.lines)) in
       let first = first_of (drop (length so.lines) commands) some in
@@ -130,6 +135,7 @@ module _ (print : List ℕ → Fp) (sizes : Sizes) (start : State) (commands : L
             ∙ ap (λ (l : List ℕ). said ++ l) (sym (flat_snoc so.lines line) ∙ sym (append-nil (flat_map ended (so.lines ++ line ∷ []))));
         later = λ flash disk stood. stood-snoc StandFor print sizes start commands said so.lines first.1 first.0 line first.2 flash disk stood (no_acks line (start.count + stood.k) (stop_acks why));
         faults = counts_both so.lines (line ∷ []) before middle after so.paid.1 (stop_faults why middle after falls);
+        hits = omega (arith, so.paid.0.hits, falls.flash.reads, hits_both so.lines (line ∷ []), (stop_counted why).hits);
       })
       (λ short. record {
         now = so.lines;
@@ -141,6 +147,7 @@ module _ (print : List ℕ → Fp) (sizes : Sizes) (start : State) (commands : L
         out_is = here ∙ ap (λ (l : List ℕ). said ++ (flat_map ended so.lines ++ l)) (cut_part line short);
         later = λ flash disk stood. stood;
         faults = counts_later so.lines before middle after so.paid.1 falls;
+        hits = omega (arith, so.paid.0.hits, falls.flash.reads);
       })
       (cases_lt (length line) n)
     where
@@ -155,11 +162,11 @@ module _ (print : List ℕ → Fp) (sizes : Sizes) (start : State) (commands : L
   headline_sofar Paid new so o is flash disk =
       headline_lines o so.lines so.rest (is ∙ so.said) so.whole so.no_end (tell-part print sizes so.lines start commands so.rest so.answered so.part) (so.now o.flash o.disk flash disk)
 
-  headline_stopped : (why : Stop) (n : ℕ) (new : World) (before after : Counts) (served : ServedUpTo print sizes (StandsBy print) start commands (FaultsPaid before after) (halts.Stopped why) said new) (o : Outcome)
+  headline_stopped : (why : Stop) (n : ℕ) (new : World) (before after : Counts) (served : ServedUpTo print sizes (StandsBy print) start commands (LinesPaid (length start.addresses) before after) (halts.Stopped why) said new) (o : Outcome)
       → o.out ≡ new.said ++ take n (ended (stop_text why)) → IsImage new.flash o.flash → IsImage new.disk o.disk → Headline print sizes start commands said o
   headline_stopped why n new before after served o is flash disk =
       let falls : NeverFalls after after = falls_self after in
-      let s = stopping (StandsBy print) why n new o.out before after after served.sofar served.halts.1 served.halts.0 falls is in
+      let s = stopping (length start.addresses) (StandsBy print) why n new o.out before after after served.sofar served.halts.1 served.halts.0 falls is in
       headline_lines o s.now s.rest s.out_is s.whole s.no_end s.tell (s.later o.flash o.disk (served.sofar.now o.flash o.disk flash disk))
 
   -- a crash within the last line
@@ -182,11 +189,11 @@ module _ (print : List ℕ → Fp) (sizes : Sizes) (start : State) (commands : L
       headline_sofar _ middle ends.sofar o (left.out ∙ says) (subst (λ (d : Device). IsImage d o.flash) flash left.flash) (subst (λ (d : Device). IsImage d o.disk) disk left.disk)
 
 -- what was said in all
-module _ (print : List ℕ → Fp) (sizes : Sizes) (start : State) (script : List ℕ) where
+module _ (print : List ℕ → Fp) (sizes : Sizes) (start : State) (script : List ℕ) (opening : ℕ) where
   serves_lines : (ending : Ending) (status : ℕ) (old new : World) (before after : Counts) (lines : List (List ℕ)) (rest : List ℕ) → new.said ≡ old.said ++ (flat_map ended lines ++ rest) → AllByRecursion HasNoEnd lines → HasNoEnd rest
-      → Tell print sizes start (commands_of (dialect_of sizes) script) lines rest → CountsFaults lines before after → (IsStill before.failed_emits after.failed_emits → rest ≡ []) → status ≡ status_of ending
-      → Ends print sizes start script ending (flat_map ended lines ++ rest) before after → Serves print sizes start script status old new before after
-  serves_lines ending status old new before after lines rest is whole no_end tell faults still status_is ends =
+      → Tell print sizes start (commands_of (dialect_of sizes) script) lines rest → CountsFaults lines before after → plus before.flash.reads (hits_in lines) ≤ after.flash.reads → (IsStill before.failed_emits after.failed_emits → rest ≡ []) → status ≡ status_of ending
+      → Ends print sizes start script opening ending (flat_map ended lines ++ rest) new before after → Serves print sizes start script opening status old new before after
+  serves_lines ending status old new before after lines rest is whole no_end tell faults hits still status_is ends =
       let e : record { whole = lines; rest = rest } ≡ lines_of (flat_map ended lines ++ rest) = sym (lines_of-lines lines rest whole no_end) in
       record {
         output = flat_map ended lines ++ rest;
@@ -194,15 +201,16 @@ module _ (print : List ℕ → Fp) (sizes : Sizes) (start : State) (script : Lis
         answers = subst (λ (l : Lines). Tell print sizes start (commands_of (dialect_of sizes) script) l.whole l.rest) e tell;
         whole = λ calm. ap (λ (l : Lines). l.rest) (sym e) ∙ still calm;
         faults = subst (λ (l : Lines). CountsFaults l.whole before after) e faults;
+        hits = subst (λ (l : Lines). plus before.flash.reads (hits_in l.whole) ≤ after.flash.reads) e hits;
         ending = ending;
         status_is = status_is;
         ends = ends;
       }
 
-  pub serves_stopped : (StandFor : (flash disk : List ℕ) → State → Type 0) (why : Stop) (status : ℕ) (old middle new : World) (before between after : Counts) → NeverFalls before between → NeverFalls between after
-      → ServedUpTo print sizes StandFor start (commands_of (dialect_of sizes) script) (FaultsPaid before between) (halts.Stopped why) old.said middle → SaysAlone (stop_text why) between after middle new
-      → status ≡ status_of (Stopped why) → (why ≡ stop.Length → IsBounded sizes script → ⊥) → Serves print sizes start script status old new before after
-  serves_stopped StandFor why status old middle new before between after falls more ends (inl says) status_is long =
+  pub serves_stopped : (listed : ℕ) (StandFor : (flash disk : List ℕ) → State → Type 0) (why : Stop) (status : ℕ) (old middle new : World) (before between after : Counts) → NeverFalls before between → NeverFalls between after
+      → ServedUpTo print sizes StandFor start (commands_of (dialect_of sizes) script) (LinesPaid listed before between) (halts.Stopped why) old.said middle → SaysAlone (stop_text why) between after middle new
+      → status ≡ status_of (Stopped why) → (why ≡ stop.Length → IsBounded sizes script → ⊥) → Serves print sizes start script opening status old new before after
+  serves_stopped listed StandFor why status old middle new before between after falls more ends (inl says) status_is long =
       let so = ends.sofar in
       let line : List ℕ = stop_text why in
       let was : middle.said ≡ old.said ++ flat_map ended so.lines = so.said ∙ ap (λ (l : List ℕ). old.said ++ (flat_map ended so.lines ++ l)) ends.halts.1 ∙ ap (λ (l : List ℕ). old.said ++ l) (append-nil (flat_map ended so.lines)) in
@@ -211,44 +219,53 @@ module _ (print : List ℕ → Fp) (sizes : Sizes) (start : State) (script : Lis
       ∙ ap (λ (l : List ℕ). old.said ++ l) (sym (flat_snoc so.lines line) ∙ sym (append-nil (flat_map ended (so.lines ++ line ∷ [])))) in
       serves_lines (Stopped why) status old new before after (so.lines ++ line ∷ []) [] is (whole_snoc so.lines line so.whole (stop_no_end why)) tt
       (tell-stop print sizes so.lines start (commands_of (dialect_of sizes) script) line so.answered ends.halts.0 (why, refl))
-      (counts_both so.lines (line ∷ []) before between after so.paid.1 (stop_faults why between after more)) (λ calm. refl) status_is
+      (counts_both so.lines (line ∷ []) before between after so.paid.1 (stop_faults why between after more))
+      (omega (arith, so.paid.0.hits, more.flash.reads, hits_both so.lines (line ∷ []), (stop_counted why).hits)) (λ calm. refl) status_is
       ((so.lines, so.whole, inl (append-nil (flat_map ended (so.lines ++ line ∷ [])))), long)
-  serves_stopped StandFor why status old middle new before between after falls more ends (inr says) status_is long =
+  serves_stopped listed StandFor why status old middle new before between after falls more ends (inr says) status_is long =
       let so = ends.sofar in
       let line : List ℕ = stop_text why in
       let n : ℕ = says.1 in
       let was : middle.said ≡ old.said ++ flat_map ended so.lines = so.said ∙ ap (λ (l : List ℕ). old.said ++ (flat_map ended so.lines ++ l)) ends.halts.1 ∙ ap (λ (l : List ℕ). old.said ++ l) (append-nil (flat_map ended so.lines)) in
-      let s = stopping print sizes start (commands_of (dialect_of sizes) script) old.said StandFor why n middle new.said before between after so ends.halts.1 ends.halts.0 more says.2 in
+      let s = stopping print sizes start (commands_of (dialect_of sizes) script) old.said listed StandFor why n middle new.said before between after so ends.halts.1 ends.halts.0 more says.2 in
       let is : old.said ++ (flat_map ended s.now ++ s.rest) ≡ old.said ++ (flat_map ended so.lines ++ take n (ended line)) =
       sym s.out_is ∙ says.2 ∙ ap (λ (l : List ℕ). l ++ take n (ended line)) was ∙ append_assoc old.said (flat_map ended so.lines) (take n (ended line)) in
       let rose : Rose before.failed_emits after.failed_emits = omega (arith, says.0, falls.emits) in
-      serves_lines (Stopped why) status old new before after s.now s.rest s.out_is s.whole s.no_end s.tell s.faults
+      serves_lines (Stopped why) status old new before after s.now s.rest s.out_is s.whole s.no_end s.tell s.faults s.hits
       (λ calm. absurd (still_emits before.failed_emits between.failed_emits after.failed_emits falls.emits calm says.0)) status_is
       ((so.lines, so.whole, inr (rose, n, cancel old.said (flat_map ended s.now ++ s.rest) (flat_map ended so.lines ++ take n (ended line)) is)), long)
 
   pub serves_last : (ending : Ending) (status : ℕ) (old middle new : World) (before between after : Counts) (Long : Type 0) (takes_before takes_after : ℕ) → NeverFalls before between → NeverFalls between after
-      → LoopEnds print sizes start (commands_of (dialect_of sizes) script) ending old.said middle before between → SaysLast (ending_line ending) between after middle new → status ≡ status_of ending
+      → (new.disk ≡ middle.disk) × IsIdle between after → LoopEnds print sizes start (commands_of (dialect_of sizes) script) ending old.said middle before between → SaysLast (ending_line ending) between after middle new → status ≡ status_of ending
       → (Long → IsBounded sizes script → ⊥) → ((faulted : Bool) → ending ≡ Served faulted → IsBounded sizes script)
-      → Caused ⊥ Long ending before between takes_before takes_after → Serves print sizes start script status old new before after
-  serves_last (Served faulted) status old middle new before between after Long takes_before takes_after falls more ends says status_is long bounded caused =
+      → Caused ⊥ Long ending before between takes_before takes_after → Serves print sizes start script opening status old new before after
+  serves_last (Served faulted) status old middle new before between after Long takes_before takes_after falls more idle ends says status_is long bounded caused =
       let so = ends.sofar in
       let is : new.said ≡ old.said ++ (flat_map ended so.lines ++ []) = says ∙ so.said ∙ ap (λ (l : List ℕ). old.said ++ (flat_map ended so.lines ++ l)) ends.nothing_more in
       let e : record { whole = so.lines; rest = [] } ≡ lines_of (flat_map ended so.lines ++ []) = sym (lines_of-lines so.lines [] so.whole tt) in
       serves_lines (Served faulted) status old new before after so.lines [] is so.whole tt (tell-part print sizes so.lines start (commands_of (dialect_of sizes) script) [] so.answered (inl refl))
-      (counts_later so.lines before between after so.paid.1 more) (λ calm. refl) status_is (
-        record {
+      (counts_later so.lines before between after so.paid.1 more) (omega (arith, so.paid.0.hits, more.flash.reads)) (λ calm. refl) status_is
+      (record {
+        all = record {
           answered = subst (λ (l : Lines). Answered print sizes start (commands_of (dialect_of sizes) script) l.whole) e so.answered;
           all = subst (λ (l : Lines). length l.whole ≡ length (commands_of (dialect_of sizes) script)) e ends.all;
           whole = ap (λ (l : Lines). l.rest) (sym e);
-        },
-        subst (λ (l : Lines). HasFault faulted l.whole) e ends.fault,
-        (λ fine. cancel old.said (flat_map ended so.lines ++ []) (output_of print sizes start (commands_of (dialect_of sizes) script)) (sym (ap (λ (l : List ℕ). old.said ++ (flat_map ended so.lines ++ l)) ends.nothing_more) ∙ sym so.said ∙ ends.exact fine)),
-        bounded faulted refl,
-      )
-  serves_last (Refused why) status old middle new before between after Long takes_before takes_after falls more ends says status_is long bounded caused = absurd ends
-  serves_last (Stopped why) status old middle new before between after Long takes_before takes_after falls more ends says status_is long bounded caused =
-      serves_stopped (StandsBy print) why status old middle new before between after falls more ends says status_is (λ e. long (long_of Long why before between takes_before takes_after caused e))
-  serves_last Unheard status old middle new before between after Long takes_before takes_after falls more ends says status_is long bounded caused =
+        };
+        fault = subst (λ (l : Lines). HasFault faulted l.whole) e ends.fault;
+        exact = λ fine. cancel old.said (flat_map ended so.lines ++ []) (output_of print sizes start (commands_of (dialect_of sizes) script)) (sym (ap (λ (l : List ℕ). old.said ++ (flat_map ended so.lines ++ l)) ends.nothing_more) ∙ sym so.said ∙ ends.exact fine);
+        bounded = bounded faulted refl;
+        calls = λ fine.
+            let spent = so.paid.0.whole refl (subst (λ (b : Bool). HasFault b so.lines) fine ends.fault) in
+            subst (λ (l : Lines). CallsLittle opening (length start.addresses) l.whole before.disk after.disk) e
+            (subst (λ (k : Calls). CallsLittle opening (length start.addresses) so.lines before.disk k) (sym idle.1.1)
+            (record { loads = omega (arith, spent.loads); calm = λ calm. omega (arith, spent.calm calm) }));
+        drained = subst (λ (l : Lines). HasArrayBehind sizes new l.whole (after_all sizes start (answered_by l.whole (commands_of (dialect_of sizes) script)))) e
+            (λ none. ap (λ (d : Device). array_of sizes.block sizes.blocks d.shown) idle.0 ∙ ends.held none);
+      })
+  serves_last (Refused why) status old middle new before between after Long takes_before takes_after falls more idle ends says status_is long bounded caused = absurd ends
+  serves_last (Stopped why) status old middle new before between after Long takes_before takes_after falls more idle ends says status_is long bounded caused =
+      serves_stopped (length start.addresses) (StandsBy print) why status old middle new before between after falls more ends says status_is (λ e. long (long_of Long why before between takes_before takes_after caused e))
+  serves_last Unheard status old middle new before between after Long takes_before takes_after falls more idle ends says status_is long bounded caused =
       let so = ends.sofar in
       serves_lines Unheard status old new before after so.lines so.rest (says ∙ so.said) so.whole so.no_end (tell-part print sizes so.lines start (commands_of (dialect_of sizes) script) so.rest so.answered so.part)
-      (counts_later so.lines before between after so.paid.1 more) (λ calm. absurd (still_emits before.failed_emits before.failed_emits after.failed_emits (omega arith) calm (omega (arith, caused, more.emits)))) status_is tt
+      (counts_later so.lines before between after so.paid.1 more) (omega (arith, so.paid.0.hits, more.flash.reads)) (λ calm. absurd (still_emits before.failed_emits before.failed_emits after.failed_emits (omega arith) calm (omega (arith, caused, more.emits)))) status_is tt

@@ -1,4 +1,5 @@
 pub mod Costs
+pub mod Spent
 pub mod Stepping
 pub mod Replying
 pub mod Finishing

@@ -1,5 +1,5 @@
 // Serving a script over two devices: the opening, the lines, and the last line.
-ghost use Rattle.std.specs.Prelude.{◌≡◌, ◌≢◌, ◌⊎◌, ◌+◌, ◌≤◌, ℕ};
+ghost use Rattle.std.specs.Prelude.{◌≡◌, ◌≢◌, ◌⊎◌, ◌+◌, ◌≤◌, ℕ, length};
 ghost use Rattle.dd_rig.specs.declared.device.Dev.TheVariants.{Flash as FlashDevice};
 ghost use Rattle.dd_rig.specs.Clock.{Elapses};
 ghost use Rattle.dd_rig.specs.Counts.{Frame, IsQuiet, IsStill, Makes, up_to};
@@ -51,7 +51,7 @@ pub fn serve<F: Fingerprint, L: Lists, R: Rig, S: Source>(
 
     // what it says and takes
     ensures serves { R.tells → S.tells → (from : Begins (F.printed print) (R.world rig.old))
-        → Serves (F.printed print) (sizes_from from) from.start (S.rest source.old) result (R.world rig.old) (R.world rig.new) (R.counts rig.old) (R.counts rig.new) }
+        → Serves (F.printed print) (sizes_from from) from.start (S.rest source.old) 1 result (R.world rig.old) (R.world rig.new) (R.counts rig.old) (R.counts rig.new) }
     ensures taken { R.tells → S.tells → (from : Begins (F.printed print) (R.world rig.old))
         → result ≤ 1 → IsTakenTo (dialect_of (sizes_from from)) (S.rest source.old) (S.rest source.new) }
     ensures untaken { (result ≡ 3) ⊎ (result ≡ 4) → (source.new ≡ source.old) × Makes (up_to 4 1 0) (up_to 0 1 0) (R.counts rig.old) (R.counts rig.new) }
@@ -82,13 +82,14 @@ fn end_store<F: Fingerprint, L: Lists, R: Rig, S: Source>(
     source: &mut S,
     rig: &mut R,
 ) -> u8
-    requires { MayAnswer store.store (script_limit + 1) (R.device_size rig.old) }
+    requires ready { MayAnswer store.store (script_limit + 1) (R.device_size rig.old) }
+    requires few { length store.store.dirty ≤ store.store.journal.geo.acap }
     ensures crash { R.tells → S.tells → (start : State) → Kept (F.printed store.print) store.store (R.world rig.old) start start
         → Elapses (R.clock rig.old) (R.clock rig.new) (Headline (F.printed store.print) (sizes_of store.store.journal.geo) start (commands_of (dialect_of (sizes_of store.store.journal.geo)) (S.rest source.old)) (R.world rig.old).said) }
     ensures left { R.tells → S.tells → (start : State) → Kept (F.printed store.print) store.store (R.world rig.old) start start
         → (o : Outcome) → MayLeave (R.world rig.new) o → Headline (F.printed store.print) (sizes_of store.store.journal.geo) start (commands_of (dialect_of (sizes_of store.store.journal.geo)) (S.rest source.old)) (R.world rig.old).said o }
     ensures serves { R.tells → S.tells → (start : State) → Kept (F.printed store.print) store.store (R.world rig.old) start start
-        → Serves (F.printed store.print) (sizes_of store.store.journal.geo) start (S.rest source.old) result (R.world rig.old) (R.world rig.new) (R.counts rig.old) (R.counts rig.new) }
+        → Serves (F.printed store.print) (sizes_of store.store.journal.geo) start (S.rest source.old) 0 result (R.world rig.old) (R.world rig.new) (R.counts rig.old) (R.counts rig.new) }
     ensures quiet { R.tells → S.tells → (start : State) → Kept (F.printed store.print) store.store (R.world rig.old) start start
         → IsQuiet (R.counts rig.old) (R.counts rig.new) → IsStill (S.failures source.old) (S.failures source.new) → IsBounded (sizes_of store.store.journal.geo) (S.rest source.old) → (result ≡ 0) ⊎ (result ≡ 4) }
     ensures caused { IsCaused ⊥ (S.tells → IsBounded (sizes_of store.store.journal.geo) (S.rest source.old) → ⊥) result (R.counts rig.old) (R.counts rig.new) (S.failures source.old) (S.failures source.new) }

@@ -1,7 +1,8 @@
 // Serving a script over a store.
-ghost use Rattle.std.specs.Prelude.{◌≡◌, ◌⊎◌, ◌+◌, ◌<◌, ◌≤◌, ◌^◌, ℕ, List, length, IfOk, IfErr, OnOk, OnErr};
+ghost use Rattle.std.specs.Prelude.{◌≡◌, ◌⊎◌, ◌+◌, ◌<◌, ◌≤◌, ◌^◌, ℕ, false, List, [], length, IfOk, IfErr, OnOk, OnErr};
 ghost use Rattle.dd_rig.specs.Clock.{Elapses};
 ghost use Rattle.dd_rig.specs.Counts.{Frame, Rose};
+ghost use Rattle.dd_record.specs.Table.{is_dirty_at};
 ghost use Rattle.dd_model.specs.State.{State};
 ghost use Rattle.dd_script.specs.Output.{dialect_of};
 ghost use Rattle.dd_script.specs.Reading.{IsTakenTo, script_limit};
@@ -14,7 +15,8 @@ ghost use Rattle.dd_loop.specs.Halting.{Halts};
 ghost use Rattle.dd_loop.specs.Serving.{ServedAll, ServedUpTo};
 ghost use Rattle.dd_loop.specs.Standing.{StandForPrefix};
 ghost use Rattle.dd_answers.specs.Answering.{MayAnswer, StandsBy};
-ghost use Rattle.dd_answers.specs.Serving.{Caused, FaultsPaid, IsBounded, IsServed, LoopEnds, served_ending};
+ghost use Rattle.dd_answers.specs.Costs.{HasArrayBehind};
+ghost use Rattle.dd_answers.specs.Serving.{Caused, LinesPaid, IsBounded, IsServed, LoopEnds, served_ending};
 
 use crate::cache::StoreCache;
 use dd_block::Fingerprint;
@@ -34,7 +36,8 @@ pub fn serve_store<F: Fingerprint, L: Lists, R: Rig, S: Source>(
     source: &mut S,
     rig: &mut R,
 ) -> Ending
-    requires { MayAnswer store.store (script_limit + 1) (R.device_size rig.old) }
+    requires ready { MayAnswer store.store (script_limit + 1) (R.device_size rig.old) }
+    requires few { length store.store.dirty ≤ store.store.journal.geo.acap }
     ensures crash { R.tells → S.tells → (start : State) → Kept (F.printed store.print) store.store (R.world rig.old) start start
         → Elapses (R.clock rig.old) (R.clock rig.new) (StandForPrefix (StandsBy (F.printed store.print)) (F.printed store.print) (sizes_of store.store.journal.geo) start
         (commands_of (dialect_of (sizes_of store.store.journal.geo)) (S.rest source.old)) (R.world rig.old).said) }
@@ -72,26 +75,38 @@ fn serve_script<F: Fingerprint, L: Lists, R: Rig, S: Source>(
     source: &mut S,
     rig: &mut R,
 ) -> Result<Result<bool, Halt>, AllocError>
-    requires { MayAnswer store.store (script_limit + 1) (R.device_size rig.old) }
+    requires ready { MayAnswer store.store (script_limit + 1) (R.device_size rig.old) }
+    requires few { length store.store.dirty ≤ store.store.journal.geo.acap }
     ensures crash { R.tells → S.tells → (start : State) → Kept (F.printed store.print) store.store (R.world rig.old) start start
         → Elapses (R.clock rig.old) (R.clock rig.new) (StandForPrefix (StandsBy (F.printed store.print)) (F.printed store.print) (sizes_of store.store.journal.geo) start
         (commands_of (dialect_of (sizes_of store.store.journal.geo)) (S.rest source.old)) (R.world rig.old).said) }
     ensures all { R.tells → S.tells → (start : State) → Kept (F.printed store.print) store.store (R.world rig.old) start start
         → IfOk result (λ served. IfOk served (λ faulted. ServedAll (F.printed store.print) (sizes_of store.store.journal.geo) (StandsBy (F.printed store.print)) start
-        (commands_of (dialect_of (sizes_of store.store.journal.geo)) (S.rest source.old)) (FaultsPaid (R.counts rig.old) (R.counts rig.new)) faulted (R.world rig.old).said (R.world rig.new))) }
+        (commands_of (dialect_of (sizes_of store.store.journal.geo)) (S.rest source.old)) (LinesPaid (length start.addresses) (R.counts rig.old) (R.counts rig.new)) (HasArrayBehind (sizes_of store.store.journal.geo) (R.world rig.new)) faulted (R.world rig.old).said (R.world rig.new))) }
     ensures some { R.tells → S.tells → (start : State) → Kept (F.printed store.print) store.store (R.world rig.old) start start
         → IfOk result (λ served. IfErr served (λ halt. ServedUpTo (F.printed store.print) (sizes_of store.store.journal.geo) (StandsBy (F.printed store.print)) start
-        (commands_of (dialect_of (sizes_of store.store.journal.geo)) (S.rest source.old)) (FaultsPaid (R.counts rig.old) (R.counts rig.new)) halt (R.world rig.old).said (R.world rig.new))) }
+        (commands_of (dialect_of (sizes_of store.store.journal.geo)) (S.rest source.old)) (LinesPaid (length start.addresses) (R.counts rig.old) (R.counts rig.new)) halt (R.world rig.old).said (R.world rig.new))) }
     ensures taken { S.tells → IfOk result (λ served. OnOk served (IsTakenTo (dialect_of (sizes_of store.store.journal.geo)) (S.rest source.old) (S.rest source.new) × IsBounded (sizes_of store.store.journal.geo) (S.rest source.old))) }
     ensures halt { IfOk result (λ served. IfErr served (λ halt. Halts (λ device. Unit {0}) (Rose (S.failures source.old) (S.failures source.new))
         (S.tells → IsBounded (sizes_of store.store.journal.geo) (S.rest source.old) → ⊥) halt (R.counts rig.old) (R.counts rig.new))) }
     ensures early { OnErr result ((source.new ≡ source.old) × (rig.new ≡ rig.old)) }
     ensures frame { Frame (R.counts rig.old) (R.counts rig.new) (R.device_size rig.old) (R.device_size rig.new) }
 {
+    knows_dirty(&store);
     let size = store.geometry().block as usize;
     let mut cache = StoreCache { store };
     let mut reader = Reader::new(alloc)?;
     let mut block = vec![in alloc; 0; size]?;
     let mut text = vec![in alloc; 0; REPLY_ROOM]?;
-    Ok(serve_lines(&mut cache, &mut reader, source, rig, &mut block, &mut text))
+    let served = serve_lines(&mut cache, &mut reader, source, rig, &mut block, &mut text);
+    knows_dirty(&cache.store);
+    Ok(served)
+}
+
+// A store knows its dirty addresses: they are listed, and no other one is dirty.
+fn knows_dirty<F: Fingerprint, L: Lists>(store: &Store<F, L>)
+    ensures listed { length store.now.store.dirty ≤ length store.now.store.table.a }
+    ensures none { store.now.store.dirty ≡ [] → (address : ℕ) → is_dirty_at address store.now.store.table.a ≡ false }
+{
+    let _ = store.lists();
 }

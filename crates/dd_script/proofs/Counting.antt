@@ -14,7 +14,9 @@ use Rattle.dd_model.specs.declared.kind.Kind.TheVariants.{Hit, Join, Miss, Dup, 
 use Rattle.dd_model.specs.State.{is_zero_block}
 use Rattle.dd_script.specs.Answers.{begins, faults_in}
 use Rattle.dd_script.specs.Counting.{is_hit, is_load, is_miss, is_update, hits_in, loads_in, misses_in, updates_in, mentions, is_calm, all_calm, dirty_behind, dirty_after}
-use Rattle.dd_script.specs.Text.{kind_word, out_text, drop_text, read_text, write_text, flushed_text, cleaned_text, ticked_text, bye_text, bad_text, fault_text}
+use Rattle.dd_script.specs.Text.{kind_word, out_text, drop_text, read_text, write_text, flushed_text, cleaned_text, ticked_text, bye_text, bad_text, fault_text, stop_text}
+use Rattle.dd_script.specs.declared.reply.Stop.{Stop}
+use Rattle.dd_script.specs.declared.reply.Stop.TheVariants as stop
 use Rattle.dd_script.specs.declared.line.BadKind.{BadKind}
 use Rattle.dd_script.specs.declared.line.BadKind.TheVariants as bad_is
 use Rattle.dd_script.proofs.ZeroTexts.{zeros_told}
@@ -162,6 +164,13 @@ bad_counted bad_is.Rest = record { hits = refl; loads = refl; updates = refl }
 pub fault_counted : (device : Dev) → Counted (fault_text device) 0 0 0
 fault_counted dev.Flash = record { hits = refl; loads = refl; updates = refl }
 fault_counted dev.Disk = record { hits = refl; loads = refl; updates = refl }
+
+pub stop_counted : (why : Stop) → Counted (stop_text why) 0 0 0
+stop_counted stop.Flash = record { hits = refl; loads = refl; updates = refl }
+stop_counted stop.Disk = record { hits = refl; loads = refl; updates = refl }
+stop_counted stop.Script = record { hits = refl; loads = refl; updates = refl }
+stop_counted stop.Length = record { hits = refl; loads = refl; updates = refl }
+stop_counted stop.Memory = record { hits = refl; loads = refl; updates = refl }
 
 -- behind which as many may be dirty
 pub read_dirty : (acap n : ℕ) (kind : Kind) (block : List ℕ) (out : Option ℕ) (drop : Option Fp) → n ≤ acap → n ≤ dirty_behind acap n (read_text kind block out drop)

@@ -41,9 +41,9 @@ returns-clause-serves g c = λ t u start kept.
     let print : List ℕ → Fp = g.F.Fingerprint.printed c.args.store.print in
     let sizes : Sizes = sizes_of c.args.store.store.journal.geo in
     let script : List ℕ = g.S.Source.rest c.args.source.now in
-    serves_last print sizes start script c.serve_store-ending.result c.finish.result (g.R.Rig.world c.args.rig.now) (g.R.Rig.world c.serve_store-ending.new.rig) (g.R.Rig.world c.finish.new.rig)
+    serves_last print sizes start script 0 c.serve_store-ending.result c.finish.result (g.R.Rig.world c.args.rig.now) (g.R.Rig.world c.serve_store-ending.new.rig) (g.R.Rig.world c.finish.new.rig)
     (g.R.Rig.counts c.args.rig.now) (g.R.Rig.counts c.serve_store-ending.new.rig) (g.R.Rig.counts c.finish.new.rig) (g.S.Source.tells → IsBounded sizes script → ⊥) (g.S.Source.failures c.args.source.now) (g.S.Source.failures c.serve_store-ending.new.source)
-    c.serve_store-ending.ensures.frame.0 c.finish.ensures.frame.0 (c.serve_store-ending.ensures.ends t u start kept) (c.finish.ensures.said t) c.finish.ensures.status
+    c.serve_store-ending.ensures.frame.0 c.finish.ensures.frame.0 ((c.finish.ensures.devices t).1, c.finish.ensures.idle) (c.serve_store-ending.ensures.ends t u start kept) (c.finish.ensures.said t) c.finish.ensures.status
     (λ long. long u) (λ faulted is. (c.serve_store-ending.ensures.taken u (subst IsServed (sym is) tt)).1) c.serve_store-ending.ensures.caused
 
 pub returns-clause-quiet : goal.returns-clause-quiet

@@ -16,7 +16,7 @@ use Rattle.dd_loop.specs.Ending.{ending_line, status_of, SaysLast, WithinLast}
 use Rattle.dd_answers.specs.Headline.{Headline}
 use Rattle.dd_answers.specs.Opening.{ending_of}
 use Rattle.dd_answers.specs.Serving.{IsBounded, Serves}
-use Rattle.dd_answers.proofs.Ended.{Stops, stops, quiet_fault, refuses_first, unopened_within, unopened_behind, serves_unopened, by_three, caused_since, fault_asked, quiet_behind, refuses_so, serves_since}
+use Rattle.dd_answers.proofs.Ended.{opened_calls, Stops, stops, quiet_fault, refuses_first, unopened_within, unopened_behind, serves_unopened, by_three, caused_since, fault_asked, quiet_behind, refuses_so, serves_since}
 use Rattle.dd_answers.proofs.opening.serve.Goals as goal
 
 pub returns-in-Err-clause-crash : goal.returns-in-Err-clause-crash
@@ -50,9 +50,9 @@ returns-in-Err-clause-serves g c = λ t u from.
     let s : Stops c.in-Err.fault = stops c.args.print print from.stands.geo c.in-Err.fault middle from.start (c.in-Err.ensures.opens t from.start from.stands from.young) in
     let says : SaysLast (ending_line (ending_of c.in-Err.fault)) (g.R.Rig.counts c.open_store.new.rig) (g.R.Rig.counts c.finish.new.rig) middle new =
     subst (λ (e : Ending). SaysLast (ending_line e) (g.R.Rig.counts c.open_store.new.rig) (g.R.Rig.counts c.finish.new.rig) middle new) c.ending_of-ending.ensures (c.finish.ensures.said t) in
-    subst (λ (status : ℕ). Serves print (sizes_of from.stands.geo) from.start (g.S.Source.rest c.args.source.now) status old new (g.R.Rig.counts c.args.rig.now) (g.R.Rig.counts c.finish.new.rig))
+    subst (λ (status : ℕ). Serves print (sizes_of from.stands.geo) from.start (g.S.Source.rest c.args.source.now) 1 status old new (g.R.Rig.counts c.args.rig.now) (g.R.Rig.counts c.finish.new.rig))
     (sym (c.finish.ensures.status ∙ ap status_of c.ending_of-ending.ensures))
-    (serves_unopened c.in-Err.fault s old middle (c.open_store.ensures.said t) (c.open_store.ensures.own t) print (sizes_of from.stands.geo) from.start (g.S.Source.rest c.args.source.now) new
+    (serves_unopened c.in-Err.fault s old middle (c.open_store.ensures.said t) (c.open_store.ensures.own t) print (sizes_of from.stands.geo) from.start (g.S.Source.rest c.args.source.now) 1 new
     (g.R.Rig.counts c.args.rig.now) (g.R.Rig.counts c.open_store.new.rig) (g.R.Rig.counts c.finish.new.rig) c.open_store.ensures.frame.0 c.finish.ensures.frame.0 says)
 
 pub returns-in-Err-clause-quiet : goal.returns-in-Err-clause-quiet
@@ -93,9 +93,9 @@ returns-in-Ok-clause-serves g c = λ t u from.
     let script : List ℕ = g.S.Source.rest c.args.source.now in
     let kept = c.in-Ok.ensures.kept t from.start from.stands in
     let printed = ap g.F.Fingerprint.printed c.in-Ok.ensures.print in
-    serves_since (g.F.Fingerprint.printed c.args.print) (sizes_of from.stands.geo) from.start script c.end_store.result (g.R.Rig.world c.args.rig.now) (g.R.Rig.world c.open_store.new.rig) (g.R.Rig.world c.end_store.new.rig)
-    (g.R.Rig.counts c.args.rig.now) (g.R.Rig.counts c.open_store.new.rig) (g.R.Rig.counts c.end_store.new.rig) c.open_store.ensures.frame.0 c.end_store.ensures.frame.0 (c.open_store.ensures.said t)
-    (by_three (λ (p : List ℕ → Fp) (geo : Geometry) (said : List ℕ). Serves p (sizes_of geo) from.start script c.end_store.result (g.R.Rig.world c.open_store.new.rig) (g.R.Rig.world c.end_store.new.rig) (g.R.Rig.counts c.open_store.new.rig) (g.R.Rig.counts c.end_store.new.rig))
+    serves_since (g.F.Fingerprint.printed c.args.print) (sizes_of from.stands.geo) from.start script 1 c.end_store.result (g.R.Rig.world c.args.rig.now) (g.R.Rig.world c.open_store.new.rig) (g.R.Rig.world c.end_store.new.rig)
+    (g.R.Rig.counts c.args.rig.now) (g.R.Rig.counts c.open_store.new.rig) (g.R.Rig.counts c.end_store.new.rig) c.open_store.ensures.frame.0 c.end_store.ensures.frame.0 (opened_calls c.open_store.ensures.calls) (c.open_store.ensures.said t)
+    (by_three (λ (p : List ℕ → Fp) (geo : Geometry) (said : List ℕ). Serves p (sizes_of geo) from.start script 0 c.end_store.result (g.R.Rig.world c.open_store.new.rig) (g.R.Rig.world c.end_store.new.rig) (g.R.Rig.counts c.open_store.new.rig) (g.R.Rig.counts c.end_store.new.rig))
     printed kept.0 (c.open_store.ensures.said t)
     (c.end_store.ensures.serves t u from.start (subst (λ (p : List ℕ → Fp). Kept p c.in-Ok.store.store (g.R.Rig.world c.open_store.new.rig) from.start from.start) (sym printed) kept.1)))
 

@@ -22,42 +22,59 @@ returns-clause-crash g c = λ t u start kept.
     let old : World = g.R.Rig.world c.args.rig.now in
     let print : List ℕ → Fp = g.F.Fingerprint.printed c.args.store.print in
     let sizes : Sizes = sizes_of c.args.store.store.journal.geo in
-    subst (λ (h : Held). Elapses (g.R.Rig.clock c.args.rig.now) (g.R.Rig.clock c.serve_lines.new.rig)
+    subst (λ (h : Held). Elapses (g.R.Rig.clock c.args.rig.now) (g.R.Rig.clock c.serve_lines-served.new.rig)
     (StandForPrefix (StandsBy print) print sizes start (commands_of (dialect_of sizes) (left h (g.S.Source.rest c.args.source.now))) old.said)) c.in_ok-reader.ensures
-    (c.serve_lines.ensures.crash t u old start kept)
+    (c.serve_lines-served.ensures.crash t u old start kept)
 
 pub returns-clause-all : goal.returns-clause-all
 returns-clause-all g c = λ t u start kept.
     let old : World = g.R.Rig.world c.args.rig.now in
-    let new : World = g.R.Rig.world c.serve_lines.new.rig in
+    let new : World = g.R.Rig.world c.serve_lines-served.new.rig in
+    let before = g.R.Rig.counts c.args.rig.now in
+    let after = g.R.Rig.counts c.serve_lines-served.new.rig in
     let print : List ℕ → Fp = g.F.Fingerprint.printed c.args.store.print in
-    let sizes : Sizes = sizes_of c.args.store.store.journal.geo in
-    subst (λ (h : Held). IfOk c.serve_lines.result (λ faulted. ServedAll print sizes (StandsBy print) start (commands_of (dialect_of sizes) (left h (g.S.Source.rest c.args.source.now)))
-    (FaultsPaid (g.R.Rig.counts c.args.rig.now) (g.R.Rig.counts c.serve_lines.new.rig)) faulted old.said new)) c.in_ok-reader.ensures
-    (c.serve_lines.ensures.all t u old start kept)
+    let geo : Geometry = c.args.store.store.journal.geo in
+    let commands : List Command = commands_of (dialect_of (sizes_of geo)) (left c.in_ok-reader.reader (g.S.Source.rest c.args.source.now)) in
+    let store = c.serve_lines-served.new.cache.store in
+    let few : length c.args.store.store.dirty ≤ length start.addresses = omega (arith, c.knows_dirty.ensures.listed, listed_rows print c.args.store.store old start start kept) in
+    subst (λ (h : Held). IfOk c.serve_lines-served.result (λ faulted. ServedAll print (sizes_of geo) (StandsBy print) start (commands_of (dialect_of (sizes_of geo)) (left h (g.S.Source.rest c.args.source.now)))
+    (LinesPaid (length start.addresses) before after) (HasArrayBehind (sizes_of geo) new) faulted old.said new)) c.in_ok-reader.ensures
+    (ok_map c.serve_lines-served.result _ _
+    (all_by print (sizes_of geo) (StandsBy print) start commands (Pays (CostsLines c.args.store.store store.store) before after) (LinesPaid (length start.addresses) before after)
+    (spent_by (length start.addresses) c.args.store.store store.store before after few) old.said new
+    (IsHeld (λ committed held. Kept (g.F.Fingerprint.printed store.print) store.store new committed held)) (HasArrayBehind (sizes_of geo) new) _)
+    (c.serve_lines-served.ensures.all t u old start kept))
 
 pub returns-clause-some : goal.returns-clause-some
 returns-clause-some g c = λ t u start kept.
     let old : World = g.R.Rig.world c.args.rig.now in
-    let new : World = g.R.Rig.world c.serve_lines.new.rig in
+    let new : World = g.R.Rig.world c.serve_lines-served.new.rig in
+    let before = g.R.Rig.counts c.args.rig.now in
+    let after = g.R.Rig.counts c.serve_lines-served.new.rig in
     let print : List ℕ → Fp = g.F.Fingerprint.printed c.args.store.print in
-    let sizes : Sizes = sizes_of c.args.store.store.journal.geo in
-    subst (λ (h : Held). IfErr c.serve_lines.result (λ halt. ServedUpTo print sizes (StandsBy print) start (commands_of (dialect_of sizes) (left h (g.S.Source.rest c.args.source.now)))
-    (FaultsPaid (g.R.Rig.counts c.args.rig.now) (g.R.Rig.counts c.serve_lines.new.rig)) halt old.said new)) c.in_ok-reader.ensures
-    (c.serve_lines.ensures.some t u old start kept)
+    let geo : Geometry = c.args.store.store.journal.geo in
+    let commands : List Command = commands_of (dialect_of (sizes_of geo)) (left c.in_ok-reader.reader (g.S.Source.rest c.args.source.now)) in
+    let store = c.serve_lines-served.new.cache.store in
+    let few : length c.args.store.store.dirty ≤ length start.addresses = omega (arith, c.knows_dirty.ensures.listed, listed_rows print c.args.store.store old start start kept) in
+    subst (λ (h : Held). IfErr c.serve_lines-served.result (λ halt. ServedUpTo print (sizes_of geo) (StandsBy print) start (commands_of (dialect_of (sizes_of geo)) (left h (g.S.Source.rest c.args.source.now)))
+    (LinesPaid (length start.addresses) before after) halt old.said new)) c.in_ok-reader.ensures
+    (err_map c.serve_lines-served.result _ _
+    (some_by print (sizes_of geo) (StandsBy print) start commands (Pays (CostsLines c.args.store.store store.store) before after) (LinesPaid (length start.addresses) before after)
+    (spent_by (length start.addresses) c.args.store.store store.store before after few) old.said new)
+    (c.serve_lines-served.ensures.some t u old start kept))
 
 pub returns-clause-taken : goal.returns-clause-taken
 returns-clause-taken g c = λ u.
     let sizes : Sizes = sizes_of c.args.store.store.journal.geo in
     let rest : List ℕ = g.S.Source.rest c.args.source.now in
-    subst (λ (h : Held). OnOk c.serve_lines.result (IsTakenTo (dialect_of sizes) (left h rest) (g.S.Source.rest c.serve_lines.new.source) × EndsWithin (fuel h) (dialect_of sizes) (left h rest))) c.in_ok-reader.ensures
-    (ok_both c.serve_lines.result (IsTakenTo (dialect_of sizes) (left c.in_ok-reader.reader rest) (g.S.Source.rest c.serve_lines.new.source)) (EndsWithin (fuel c.in_ok-reader.reader) (dialect_of sizes) (left c.in_ok-reader.reader rest))
-    (c.serve_lines.ensures.taken u) (c.serve_lines.ensures.bounded u))
+    subst (λ (h : Held). OnOk c.serve_lines-served.result (IsTakenTo (dialect_of sizes) (left h rest) (g.S.Source.rest c.serve_lines-served.new.source) × EndsWithin (fuel h) (dialect_of sizes) (left h rest))) c.in_ok-reader.ensures
+    (ok_both c.serve_lines-served.result (IsTakenTo (dialect_of sizes) (left c.in_ok-reader.reader rest) (g.S.Source.rest c.serve_lines-served.new.source)) (EndsWithin (fuel c.in_ok-reader.reader) (dialect_of sizes) (left c.in_ok-reader.reader rest))
+    (c.serve_lines-served.ensures.taken u) (c.serve_lines-served.ensures.bounded u))
 
 pub returns-clause-halt : goal.returns-clause-halt
 returns-clause-halt g c =
     let sizes : Sizes = sizes_of c.args.store.store.journal.geo in
     let rest : List ℕ = g.S.Source.rest c.args.source.now in
-    subst (λ (h : Held). IfErr c.serve_lines.result (λ halt. Halts (λ device. Unit {0}) (Rose (g.S.Source.failures c.args.source.now) (g.S.Source.failures c.serve_lines.new.source))
-    (g.S.Source.tells → EndsWithin (fuel h) (dialect_of sizes) (left h rest) → ⊥) halt (g.R.Rig.counts c.args.rig.now) (g.R.Rig.counts c.serve_lines.new.rig))) c.in_ok-reader.ensures
-    c.serve_lines.ensures.halt
+    subst (λ (h : Held). IfErr c.serve_lines-served.result (λ halt. Halts (λ device. Unit {0}) (Rose (g.S.Source.failures c.args.source.now) (g.S.Source.failures c.serve_lines-served.new.source))
+    (g.S.Source.tells → EndsWithin (fuel h) (dialect_of sizes) (left h rest) → ⊥) halt (g.R.Rig.counts c.args.rig.now) (g.R.Rig.counts c.serve_lines-served.new.rig))) c.in_ok-reader.ensures
+    c.serve_lines-served.ensures.halt

@@ -1,4 +1,4 @@
-use Rattle.std.proofs.Common.{ℕ, List, subst, sym}
+use Rattle.std.proofs.Common.{ℕ, List, length, subst, sym}
 use Rattle.dd_block.specs.declared.print.Fp.{Fp}
 use Rattle.dd_rig.specs.World.{World}
 use Rattle.dd_rig.proofs.Falling.{falls_self}
@@ -13,7 +13,7 @@ use Rattle.dd_script.specs.declared.reply.Stop.TheVariants.{Memory}
 use Rattle.dd_loop.specs.Serving.{ServedUpTo}
 use Rattle.dd_loop.proofs.Reading.{commands_some}
 use Rattle.dd_answers.specs.Answering.{StandsBy}
-use Rattle.dd_answers.specs.Serving.{FaultsPaid, LoopEnds}
+use Rattle.dd_answers.specs.Serving.{LinesPaid, LoopEnds}
 use Rattle.dd_answers.proofs.Finishing.{unserved, ends_so}
 use Rattle.dd_answers.proofs.serving.serve_store.Goals as goal
 
@@ -22,8 +22,8 @@ returns-in-Err-clause-ends g c = λ t u start kept.
     let print : List ℕ → Fp = g.F.Fingerprint.printed c.args.store.print in
     let sizes : Sizes = sizes_of c.args.store.store.journal.geo in
     let commands : List Command = commands_of (dialect_of sizes) (g.S.Source.rest c.args.source.now) in
-    subst (λ r. ServedUpTo print sizes (StandsBy print) start commands (FaultsPaid (g.R.Rig.counts c.args.rig.now) (g.R.Rig.counts r)) (Stopped Memory) (g.R.Rig.world c.args.rig.now).said (g.R.Rig.world r)) (sym c.in-Err.ensures.early.1)
-    (unserved print sizes (StandsBy print) Memory start commands (g.R.Rig.world c.args.rig.now) (g.R.Rig.counts c.args.rig.now) (g.R.Rig.counts c.args.rig.now) kept.stands (commands_some (dialect_of sizes) (g.S.Source.rest c.args.source.now))
+    subst (λ r. ServedUpTo print sizes (StandsBy print) start commands (LinesPaid (length start.addresses) (g.R.Rig.counts c.args.rig.now) (g.R.Rig.counts r)) (Stopped Memory) (g.R.Rig.world c.args.rig.now).said (g.R.Rig.world r)) (sym c.in-Err.ensures.early.1)
+    (unserved (length start.addresses) print sizes (StandsBy print) Memory start commands (g.R.Rig.world c.args.rig.now) (g.R.Rig.counts c.args.rig.now) (g.R.Rig.counts c.args.rig.now) kept.stands (commands_some (dialect_of sizes) (g.S.Source.rest c.args.source.now))
     (falls_self (g.R.Rig.counts c.args.rig.now)))
 
 pub returns-in-Ok-clause-ends : goal.returns-in-Ok-clause-ends
