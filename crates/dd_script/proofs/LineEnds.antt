@@ -1,5 +1,5 @@
 -- Texts have no LF.
-use Rattle.std.proofs.Common.{rules, ◌≡◌, ℕ, zero, suc, ◌/◌, ◌%◌, ◌^◌, ◌<◌, ◌≤◌, ◌==◌, false, List, [], ◌∷◌, ◌++◌, take, refl, arith, Some, None, codes, decimal}
+use Rattle.std.proofs.Common.{rules, ◌≡◌, ℕ, zero, suc, ◌/◌, ◌%◌, ◌^◌, ◌<◌, ◌≤◌, ◌==◌, Bool, true, false, if◌then◌else◌, List, [], ◌∷◌, ◌++◌, take, refl, arith, Some, None, codes, decimal}
 use Rattle.std.specs.Prelude.{Option}
 use Rattle.std.specs.List.{slice_index}
 use Rattle.std.specs.Str.Parse.{AllDigits}
@@ -10,7 +10,7 @@ use Rattle.dd_block.specs.declared.print.Fp.{Fp}
 use Rattle.dd_block.specs.Text.{block_text, text_or_zero, without_zeros}
 use Rattle.dd_model.specs.declared.kind.Kind.{Kind}
 use Rattle.dd_model.specs.declared.kind.Kind.TheVariants.{Hit, Join, Miss, Dup, New}
-use Rattle.dd_script.specs.Text.{HasNoEnd, kind_word, out_text, drop_text, read_text, write_text, place_text, small_text}
+use Rattle.dd_script.specs.Text.{HasNoEnd, kind_word, out_text, drop_text, read_text, write_text, place_text, small_text, address_text, print_text, stat_text}
 
 pub both_no_end : (xs ys : List ℕ) → HasNoEnd xs → HasNoEnd ys → HasNoEnd (xs ++ ys)
 both_no_end [] ys h k = k
@@ -87,3 +87,22 @@ small_no_end device need have h n k =
     (both_no_end (codes "refused " ++ device ++ codes " small ") (decimal need)
     (both_no_end (codes "refused " ++ device) (codes " small ")
     (both_no_end (codes "refused ") device (search rules) h) (search rules)) (decimal_no_end need n)) (search rules)) (decimal_no_end have k)
+
+-- a listed address, and the fingerprint of a listed block
+pub address_no_end : (address : ℕ) (linked : Bool) → address < 2 ^ 64 → HasNoEnd (address_text address linked)
+address_no_end address linked h = both_no_end (codes " " ++ decimal address) (if linked then [] else codes "-") (numbered_no_end (codes " ") address (search rules) h) (dash linked)
+  where
+    dash : (linked : Bool) → HasNoEnd (if linked then [] else codes "-")
+    dash true = tt
+    dash false = (refl, tt)
+
+pub print_no_end : (fp : Fp) → HasNoEnd (print_text fp)
+print_no_end fp = both_no_end (codes " ") (encode_lower (take 8 fp.0)) (search rules) (encoded_no_end (take 8 fp.0))
+
+pub stat_no_end : (count addresses blocks : ℕ) → count < 2 ^ 64 → addresses < 2 ^ 64 → blocks < 2 ^ 64 → HasNoEnd (stat_text count addresses blocks)
+stat_no_end count addresses blocks h n k =
+    both_no_end (codes "stat n " ++ decimal count ++ codes " addresses " ++ decimal addresses ++ codes " blocks ") (decimal blocks)
+    (both_no_end (codes "stat n " ++ decimal count ++ codes " addresses " ++ decimal addresses) (codes " blocks ")
+    (both_no_end (codes "stat n " ++ decimal count ++ codes " addresses ") (decimal addresses)
+    (both_no_end (codes "stat n " ++ decimal count) (codes " addresses ")
+    (numbered_no_end (codes "stat n ") count (search rules) h) (search rules)) (decimal_no_end addresses n)) (search rules)) (decimal_no_end blocks k)

@@ -1,5 +1,6 @@
 -- The text of each line of output, without its LF.
-use Rattle.std.specs.Prelude.{◌≡◌, ℕ, ◌==◌, false, List, [], ◌∷◌, ◌++◌, take, Option, Some, None, option_map, codes, decimal}
+use Rattle.std.specs.Prelude.{◌≡◌, ℕ, ◌==◌, Bool, false, if◌then◌else◌, List, [], ◌∷◌, ◌++◌, take, Option, Some, None, option_map, codes, decimal}
+use Rattle.std.specs.List.{flat_map}
 use Rattle.hex.specs.Hex.{encode_lower}
 use Rattle.dd_block.specs.declared.print.Fp.{Fp}
 use Rattle.dd_block.specs.Text.{block_text}
@@ -9,6 +10,7 @@ use Rattle.dd_layout.specs.declared.superblock.SuperFault.{SuperFault}
 use Rattle.dd_layout.specs.declared.superblock.SuperFault.TheVariants as super
 use Rattle.dd_rig.specs.declared.device.Dev.{Dev}
 use Rattle.dd_rig.specs.declared.device.Dev.TheVariants as dev
+use Rattle.dd_model.specs.State.{Entry}
 use Rattle.dd_model.specs.declared.kind.Kind.{Kind}
 use Rattle.dd_model.specs.declared.kind.Kind.TheVariants.{Hit, Join, Miss, Dup, New}
 use Rattle.dd_script.specs.declared.line.BadKind.{BadKind}
@@ -65,6 +67,22 @@ cleaned_text = codes "cleaned"
 
 abbrev pub ticked_text : List ℕ
 ticked_text = codes "ticked"
+
+-- a listed address, with a dash behind it where it is unlinked
+abbrev pub address_text : (address : ℕ) → (linked : Bool) → List ℕ
+address_text address linked = codes " " ++ decimal address ++ (if linked then [] else codes "-")
+
+-- the first sixteen digits of the fingerprint of a listed block
+abbrev pub print_text : Fp → List ℕ
+print_text fp = codes " " ++ encode_lower (take 8 fp.0)
+
+-- both lists, the most recently referenced first
+abbrev pub lists_text : List Entry → List Fp → List ℕ
+lists_text entries prints = codes "A" ++ flat_map (λ entry. address_text entry.address entry.linked) entries ++ codes " B" ++ flat_map print_text prints
+
+-- how many references there were, how many listed addresses are unlinked, and how many listed blocks no linked address has
+abbrev pub stat_text : (count addresses blocks : ℕ) → List ℕ
+stat_text count addresses blocks = codes "stat n " ++ decimal count ++ codes " addresses " ++ decimal addresses ++ codes " blocks " ++ decimal blocks
 
 abbrev pub bad_text : BadKind → List ℕ
 bad_text bad.Long = codes "bad long"
@@ -131,6 +149,7 @@ reply_text (reply.Write done) = write_text done.kind done.cut.out (option_map (�
 reply_text (reply.Flushed count) = flushed_text count
 reply_text reply.Cleaned = cleaned_text
 reply_text reply.Ticked = ticked_text
+reply_text (reply.Stat count orphans) = stat_text count orphans.a orphans.b
 reply_text (reply.Bad kind) = bad_text kind
 reply_text (reply.Fault device) = fault_text device
 reply_text (reply.Bye count) = bye_text count

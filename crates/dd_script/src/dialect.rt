@@ -1,7 +1,7 @@
 // What the lines of a script may say.
 
-/// What the lines of a script may say. A script that only reads knows the words r and q; any other one
-/// knows w, d, f, c and t too.
+/// What the lines of a script may say. A script that only reads knows the words r, l, s and q; any other
+/// one knows w, d, f, c and t too.
 #[derive(Clone, Copy, Debug, PartialEq, Eq)]
 pub struct Dialect {
     /// Whether it only reads.

@@ -21,4 +21,4 @@ pub use number::{number_below, number_of};
 pub use pieces::ScriptFault;
 pub use reader::Reader;
 pub use reply::{Refusal, Reply, Stop};
-pub use text::{REPLY_ROOM, reply_read, write_reply};
+pub use text::{REPLY_ROOM, list_a, list_b, reply_read, write_reply};

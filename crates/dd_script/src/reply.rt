@@ -2,7 +2,7 @@
 
 use crate::BadKind;
 use dd_layout::SuperFault;
-use dd_model::Done;
+use dd_model::{Done, Orphans};
 use dd_rig::Dev;
 
 /// Why a run stopped before the end of its script.
@@ -56,6 +56,8 @@ pub enum Reply {
     Cleaned,
     /// The address that had become dirty longest ago isn't dirty, where one was.
     Ticked,
+    /// There were so many references; and so many listed addresses and blocks are orphaned.
+    Stat { count: u64, orphans: Orphans },
     /// The line is no command.
     Bad(BadKind),
     /// A read of that device failed, and nothing has changed.

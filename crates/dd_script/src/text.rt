@@ -1,14 +1,16 @@
 // The text of each line of output.
-ghost use Rattle.std.specs.Prelude.{◌≡◌, ◌+◌, ◌*◌, ◌≤◌, ◌++◌, [], length, take, codes, decimal, option_map};
+ghost use Rattle.std.specs.Prelude.{◌≡◌, ◌+◌, ◌*◌, ◌≤◌, ◌++◌, [], length, take, codes, decimal, option_map, if◌then◌else◌};
 ghost use Rattle.dd_block.specs.Text.{block_text};
 ghost use Rattle.dd_script.specs.declared.reply.Reply.TheVariants.{Bad, Fault, Stopped};
-ghost use Rattle.dd_script.specs.Text.{reply_room, HasNoEnd, ended, kind_word, out_text, drop_text, read_text, write_text, reply_text};
+ghost use Rattle.dd_script.specs.Text.{reply_room, HasNoEnd, ended, kind_word, out_text, drop_text, address_text, print_text, stat_text, read_text, write_text, reply_text};
+ghost use Rattle.hex.specs.Hex.{encode_lower};
+ghost use Rattle.dd_record.specs.Table.{is_link};
 
 use crate::refusing::write_refusal;
 use crate::{BadKind, Reply, Stop};
 use dd_block::{Fp, write_block_text};
-use dd_model::{Cut, Done, Kind};
-use dd_record::BRow;
+use dd_model::{Cut, Done, Kind, Orphans};
+use dd_record::{ARow, BRow, Link};
 use dd_rig::Dev;
 use itoa::Buffer;
 
@@ -43,6 +45,7 @@ pub fn write_reply(reply: Reply, into: &mut [u8]) -> usize
         Reply::Flushed(count) => write_number(b"flushed ", count, into),
         Reply::Cleaned => put(into, 0, b"cleaned\n"),
         Reply::Ticked => put(into, 0, b"ticked\n"),
+        Reply::Stat { count, orphans } => write_stat(count, orphans, into),
         Reply::Bad(kind) => put(into, 0, bad_line(kind)),
         Reply::Fault(dev) => put(into, 0, fault_line(dev)),
         Reply::Bye(count) => write_number(b"bye ", count, into),
@@ -62,6 +65,67 @@ fn write_done(done: Done, into: &mut [u8]) -> usize
     let kind = put(into, 0, kind_name(done.kind));
     let cut = put_cut(into, kind, done.cut);
     put(into, cut, b"\n")
+}
+
+fn write_stat(count: u64, orphans: Orphans, into: &mut [u8]) -> usize
+    requires { length into.old ≡ reply_room }
+    ensures text { take result into.new ≡ ended (stat_text count orphans.a orphans.b) }
+    ensures line { HasNoEnd (stat_text count orphans.a orphans.b) }
+    ensures fits { result ≤ reply_room }
+{
+    let word = put(into, 0, b"stat n ");
+    let number = put_number(into, word, count);
+    let addresses = put_counted(into, number, b" addresses ", orphans.a);
+    let blocks = put_counted(into, addresses, b" blocks ", orphans.b);
+    put(into, blocks, b"\n")
+}
+
+// Words and a count behind the first bytes.
+fn put_counted(into: &mut [u8], at: usize, words: &[u8], count: u32) -> usize
+    requires room { at + length words.now + 40 ≤ length into.old }
+    requires line { HasNoEnd words.now }
+    ensures text { take result into.new ≡ take at into.old ++ words.now ++ decimal count }
+    ensures line { HasNoEnd (words.now ++ decimal count) }
+    ensures end { result ≤ at + length words.now + 40 }
+{
+    let word = put(into, at, words);
+    put_number(into, word, u64::from(count))
+}
+
+/// Writes the text of a listed address, and answers its length: a space and the address, and a dash
+/// where it is unlinked.
+pub fn list_a(row: ARow, into: &mut [u8]) -> usize
+    requires { 32 ≤ length into.old }
+    ensures text { take result into.new ≡ address_text row.address (is_link row.link) }
+    ensures line { HasNoEnd (address_text row.address (is_link row.link)) }
+    ensures fits { result ≤ 32 }
+{
+    let space = put(into, 0, b" ");
+    let number = put_short(into, space, row.address);
+    put(into, number, dash(row.link))
+}
+
+// What stands behind an address that is linked so.
+fn dash(link: Link) -> &'static [u8]
+    ensures text { result.now ≡ (if is_link link then [] else codes "-") }
+    ensures short { length result.now ≤ 1 }
+{
+    match link {
+        Link::Lost => b"-",
+        Link::Slot(_) | Link::Zero => b"",
+    }
+}
+
+/// Writes the text of a listed block, and answers its length: a space and the first sixteen digits of
+/// its fingerprint.
+pub fn list_b(row: BRow, into: &mut [u8]) -> usize
+    requires { 32 ≤ length into.old }
+    ensures text { take result into.new ≡ print_text row.fp }
+    ensures line { HasNoEnd (print_text row.fp) }
+    ensures fits { result ≤ 32 }
+{
+    let space = put(into, 0, b" ");
+    put_print(into, space, row.fp)
 }
 
 // Words and a number.
@@ -198,9 +262,28 @@ fn put_drop(into: &mut [u8], at: usize, drop: Option<Fp>) -> usize
         None => at,
         Some(fp) => {
             let word = put(into, at, b" drop ");
-            let mut digits = [0u8; 16];
-            let _ = hex::encode_to_slice(&fp.0[..8], &mut digits);
-            put(into, word, &digits)
+            put_print(into, word, fp)
         }
     }
+}
+
+// The first sixteen digits of a fingerprint.
+fn put_print(into: &mut [u8], at: usize, fp: Fp) -> usize
+    requires { at + 16 ≤ length into.old }
+    ensures text { take result into.new ≡ take at into.old ++ encode_lower (take 8 fp.0) }
+    ensures end { result ≡ at + 16 }
+{
+    let mut digits = [0u8; 16];
+    let _ = hex::encode_to_slice(&fp.0[..8], &mut digits);
+    put(into, at, &digits)
+}
+
+// An address has ten digits at most.
+fn put_short(into: &mut [u8], at: usize, number: u32) -> usize
+    requires { at + 10 ≤ length into.old }
+    ensures text { take result into.new ≡ take at into.old ++ decimal number }
+    ensures end { result ≤ at + 10 }
+{
+    let mut digits = Buffer::new();
+    put(into, at, digits.format(number).as_bytes())
 }
