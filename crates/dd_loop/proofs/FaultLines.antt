@@ -14,7 +14,7 @@ use Rattle.dd_model.specs.Reference.{read_answer, write_answer}
 use Rattle.dd_script.specs.declared.line.BadKind.{BadKind}
 use Rattle.dd_script.specs.declared.line.BadKind.TheVariants as bad_is
 use Rattle.dd_script.specs.Answers.{faults_in}
-use Rattle.dd_script.specs.Command.{Command, read, write, flush, clean, tick, quit, bad}
+use Rattle.dd_script.specs.Command.{Command, read, write, flush, clean, tick, lists, stat, quit, bad}
 use Rattle.dd_script.specs.Output.{reply_line}
 use Rattle.dd_script.specs.Text.{read_text, write_text, bad_text, fault_text}
 use Rattle.dd_loop.specs.Answering.{CountsFaults, HasFault}
@@ -67,6 +67,10 @@ reply_no_fault print sizes s clean dev.Flash = refl
 reply_no_fault print sizes s clean dev.Disk = refl
 reply_no_fault print sizes s tick dev.Flash = refl
 reply_no_fault print sizes s tick dev.Disk = refl
+reply_no_fault print sizes s lists dev.Flash = refl
+reply_no_fault print sizes s lists dev.Disk = refl
+reply_no_fault print sizes s stat dev.Flash = refl
+reply_no_fault print sizes s stat dev.Disk = refl
 reply_no_fault print sizes s quit dev.Flash = refl
 reply_no_fault print sizes s quit dev.Disk = refl
 reply_no_fault print sizes s (bad kind) device = bad_no_fault kind device

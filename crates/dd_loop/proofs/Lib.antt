@@ -8,3 +8,4 @@ pub mod Taken
 pub mod FaultLines
 pub mod Keeping
 pub mod Served
+pub mod Listing

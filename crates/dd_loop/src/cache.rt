@@ -1,17 +1,20 @@
 // What answers the lines of a script.
-ghost use Rattle.std.specs.Prelude.{◌≡◌, ◌+◌, ◌<◌, ◌≤◌, ◌++◌, ℕ, [], ◌∷◌, List, length, IfSome, IfOk, OnOk, IfErr};
+ghost use Rattle.std.specs.Prelude.{◌≡◌, ◌+◌, ◌<◌, ◌≤◌, ◌++◌, ℕ, [], ◌∷◌, List, length, Err, false, IfSome, IfOk, OnOk, OnErr, IfErr};
 ghost use Rattle.dd_rig.specs.declared.device.Dev.{Dev};
 ghost use Rattle.dd_rig.specs.declared.tallies.Counts.{Counts};
 ghost use Rattle.dd_rig.specs.Clock.{Elapses};
-ghost use Rattle.dd_rig.specs.Counts.{Frame};
+ghost use Rattle.dd_rig.specs.Counts.{Frame, Rose};
 ghost use Rattle.dd_rig.specs.World.{World};
-ghost use Rattle.dd_model.specs.State.{State};
-ghost use Rattle.dd_script.specs.Line.{told, IsIn};
-ghost use Rattle.dd_script.specs.Text.{reply_room};
+ghost use Rattle.dd_block.specs.declared.print.Fp.{Fp};
+ghost use Rattle.dd_model.specs.State.{Entry, State};
+ghost use Rattle.dd_script.specs.Line.{told, asks_lists, IsIn};
+ghost use Rattle.dd_script.specs.Text.{ended, lists_text, reply_room};
 ghost use Rattle.dd_loop.specs.Answering.{Pays, WritesAnswer};
 ghost use Rattle.dd_loop.specs.Halting.{HaltsByDevice};
 ghost use Rattle.dd_loop.specs.Standing.{AllStand, AllStandForEither, WithinCall};
-ghost use Rattle.dd_loop.specs.Terms.{Terms, dialect_in};
+ghost use Rattle.dd_loop.specs.Saying.{IsIdle, SaysPiece};
+ghost use Rattle.dd_loop.specs.Terms.{Terms, dialect_in, lists_line};
+ghost use Rattle.dd_loop.specs.declared.halt.Halt.TheVariants.{Output};
 
 use crate::halt::Halt;
 use dd_rig::Rig;
@@ -65,7 +68,7 @@ pub trait Cache<R: Rig> {
         ensures dialect { result ≡ dialect_in (terms self.now) }
         ensures most { result.block ≤ 4096 };
 
-    /// Writes the answer to a line, where it tells a command, into `text`. The block of a write stands in
+    /// Writes the answer to a line other than `l`, where it tells a command, into `text`. The block of a write stands in
     /// `block`, which may hold anything behind the answer. A read that failed is answered by a line that
     /// says so, and the state stays; a write or a sync that failed is a halt.
     fn answer(
@@ -76,6 +79,7 @@ pub trait Cache<R: Rig> {
         text: &mut [u8],
     ) -> Result<Option<Written>, Halt>
         requires within { IsIn (dialect_in (terms self.old)) line }
+        requires other { asks_lists line ≡ false }
         requires block { length block.old ≡ (terms self.old).sizes.block }
         requires text { length text.old ≡ reply_room }
         requires ready { ready self.old 1 (R.device_size rig.old) }
@@ -95,6 +99,17 @@ pub trait Cache<R: Rig> {
         ensures same { terms self.new ≡ terms self.old }
         ensures frame { Frame (R.counts rig.old) (R.counts rig.new) (R.device_size rig.old) (R.device_size rig.new) };
 
+    /// Says both lists in pieces: the reply to `l`, with its LF. `text` is room for a piece.
+    fn list(&self, rig: &mut R, text: &mut [u8]) -> Result<(), Halt>
+        requires text { length text.old ≡ reply_room }
+        ensures says { R.tells → (first : World) (c s : State) → kept self.now first (R.world rig.old) c s
+            → SaysPiece (ended (lists_line (terms self.now) s)) result (R.clock rig.old) (R.clock rig.new) (R.world rig.old) (R.world rig.new) }
+        ensures devices { R.tells → ((R.world rig.new).flash ≡ (R.world rig.old).flash) × ((R.world rig.new).disk ≡ (R.world rig.old).disk) }
+        ensures idle { IsIdle (R.counts rig.old) (R.counts rig.new) }
+        ensures halt { OnErr result (result ≡ Err Output) }
+        ensures rose { OnErr result (Rose (R.counts rig.old).failed_emits (R.counts rig.new).failed_emits) }
+        ensures frame { Frame (R.counts rig.old) (R.counts rig.new) (R.device_size rig.old) (R.device_size rig.new) };
+
     /// Whatever a crash leaves now stands for the committed state.
     ghost stood: { (cache : Self) (first now : World) (c s : State) → kept cache first now c s → AllStand (stands (terms cache) first) now c };
 
@@ -106,6 +121,9 @@ pub trait Cache<R: Rig> {
 
     /// No line costs nothing.
     ghost free: { (cache : Self) (counts : Counts) → costs cache cache [] 0 counts counts };
+
+    /// Saying both lists is no call of a device.
+    ghost lists: { (cache : Self) (entries : List Entry) (prints : List Fp) (counts : Counts) → costs cache cache (lists_text entries prints ∷ []) 0 counts counts };
 
     /// Lines and further ones cost what both cost.
     ghost sums: { (one two three : Self) (lines others : List (List ℕ)) (more : ℕ) (p q r : Counts) → costs one two lines 0 p q → costs two three others more q r → costs one three (lines ++ others) more p r };

@@ -1,11 +1,12 @@
 // Serving a script: one reply for each command.
-ghost use Rattle.std.specs.Prelude.{◌≡◌, ◌+◌, ◌<◌, ◌≤◌, ◌^◌, ℕ, List, length, Err, IfSome, IfOk, OnOk, OnErr, IfErr};
+ghost use Rattle.std.specs.Prelude.{◌≡◌, ◌+◌, ◌<◌, ◌≤◌, ◌^◌, ℕ, true, false, List, length, Some, Err, IfSome, IfOk, OnOk, OnErr, IfErr};
 ghost use Rattle.dd_rig.specs.Clock.{Elapses};
 ghost use Rattle.dd_rig.specs.Counts.{Frame, NeverFalls, Rose};
 ghost use Rattle.dd_rig.specs.World as world;
 ghost use Rattle.dd_rig.specs.World.{World, SaysSome, WithinEmit};
 ghost use Rattle.dd_model.specs.State.{State};
-ghost use Rattle.dd_script.specs.Line.{told, IsIn};
+ghost use Rattle.dd_script.specs.Command.{lists};
+ghost use Rattle.dd_script.specs.Line.{told, asks_lists, IsIn};
 ghost use Rattle.dd_script.specs.Reading.{left, fuel, quits, IsTakenTo};
 ghost use Rattle.dd_script.specs.Script.{commands_of, EndsWithin};
 ghost use Rattle.dd_script.specs.Text.{reply_room};
@@ -97,6 +98,71 @@ fn answer_line<R: Rig, C: Cache<R>>(
     text: &mut [u8],
 ) -> Result<bool, Halt>
     requires within { IsIn (dialect_in (C.terms cache.old)) line }
+    requires block { length block.old ≡ (C.terms cache.old).sizes.block }
+    requires text { length text.old ≡ reply_room }
+    requires ready { C.ready cache.old 1 (R.device_size rig.old) }
+    ensures crash { R.tells → (first : World) (c s : State) → C.kept cache.old first (R.world rig.old) c s
+        → Elapses (R.clock rig.old) (R.clock rig.new) (WithinLine (C.terms cache.old).print (C.terms cache.old).sizes (C.stands (C.terms cache.old) first) c s (told block.old line) (R.world rig.old)) }
+    ensures answer { R.tells → (first : World) (c s : State) → C.kept cache.old first (R.world rig.old) c s
+        → IfOk result (λ faulted. AnswersLine (C.terms cache.old).print (C.terms cache.old).sizes (C.kept cache.new first (R.world rig.new))
+        (λ lines. Pays (C.costs cache.old cache.new) (R.counts rig.old) (R.counts rig.new) lines 0) c s (told block.old line) faulted (R.world rig.old).said (R.world rig.new).said) }
+    ensures cut { R.tells → (first : World) (c s : State) → C.kept cache.old first (R.world rig.old) c s
+        → IfErr result (λ halt. CutsLine (C.terms cache.old).print (C.terms cache.old).sizes (C.stands (C.terms cache.old) first)
+        (Pays (C.costs cache.old cache.new) (R.counts rig.old) (R.counts rig.new)) halt c s (told block.old line) (R.world rig.old) (R.world rig.new)) }
+    ensures ready { (n : ℕ) → C.ready cache.old (n + 1) (R.device_size rig.old) → OnOk result (C.ready cache.new n (R.device_size rig.new)) }
+    ensures halt { IfErr result (λ halt. Halts C.stops ⊥ ⊥ halt (R.counts rig.old) (R.counts rig.new)) }
+    ensures does { C.does (R.counts rig.old) (R.counts rig.new) }
+    ensures leaves { R.tells → C.leaves (R.world rig.old) (R.world rig.new) }
+    ensures same { C.terms cache.new ≡ C.terms cache.old }
+    ensures frame { Frame (R.counts rig.old) (R.counts rig.new) (R.device_size rig.old) (R.device_size rig.new) }
+{
+    if asks_lists(line) {
+        say_lists(cache, rig, text)
+    } else {
+        say_answer(cache, rig, line, block, text)
+    }
+}
+
+fn asks_lists(line: Line) -> bool
+    ensures lists { result ≡ asks_lists line }
+    ensures told { result ≡ true → (block : List ℕ) → told block line ≡ Some lists }
+{
+    matches!(line, Line::Lists)
+}
+
+// Says both lists.
+#[tactic(auto, using(crate::proofs::Causes::cause_steps))]
+fn say_lists<R: Rig, C: Cache<R>>(cache: &C, rig: &mut R, text: &mut [u8]) -> Result<bool, Halt>
+    requires text { length text.old ≡ reply_room }
+    ensures crash { R.tells → (first : World) (c s : State) → C.kept cache.now first (R.world rig.old) c s
+        → Elapses (R.clock rig.old) (R.clock rig.new) (WithinLine (C.terms cache.now).print (C.terms cache.now).sizes (C.stands (C.terms cache.now) first) c s (Some lists) (R.world rig.old)) }
+    ensures answer { R.tells → (first : World) (c s : State) → C.kept cache.now first (R.world rig.old) c s
+        → IfOk result (λ faulted. AnswersLine (C.terms cache.now).print (C.terms cache.now).sizes (C.kept cache.now first (R.world rig.new))
+        (λ lines. Pays (C.costs cache.now cache.now) (R.counts rig.old) (R.counts rig.new) lines 0) c s (Some lists) faulted (R.world rig.old).said (R.world rig.new).said) }
+    ensures cut { R.tells → (first : World) (c s : State) → C.kept cache.now first (R.world rig.old) c s
+        → IfErr result (λ halt. CutsLine (C.terms cache.now).print (C.terms cache.now).sizes (C.stands (C.terms cache.now) first)
+        (Pays (C.costs cache.now cache.now) (R.counts rig.old) (R.counts rig.new)) halt c s (Some lists) (R.world rig.old) (R.world rig.new)) }
+    ensures ready { (n : ℕ) → C.ready cache.now (n + 1) (R.device_size rig.old) → OnOk result (C.ready cache.now n (R.device_size rig.new)) }
+    ensures halt { IfErr result (λ halt. Halts C.stops ⊥ ⊥ halt (R.counts rig.old) (R.counts rig.new)) }
+    ensures does { C.does (R.counts rig.old) (R.counts rig.new) }
+    ensures leaves { R.tells → C.leaves (R.world rig.old) (R.world rig.new) }
+    ensures frame { Frame (R.counts rig.old) (R.counts rig.new) (R.device_size rig.old) (R.device_size rig.new) }
+{
+    cache.list(rig, text)?;
+    Ok(false)
+}
+
+// Lets the cache answer any other line, and says what it wrote.
+#[tactic(auto, using(crate::proofs::Causes::cause_steps))]
+fn say_answer<R: Rig, C: Cache<R>>(
+    cache: &mut C,
+    rig: &mut R,
+    line: Line,
+    block: &mut [u8],
+    text: &mut [u8],
+) -> Result<bool, Halt>
+    requires within { IsIn (dialect_in (C.terms cache.old)) line }
+    requires other { asks_lists line ≡ false }
     requires block { length block.old ≡ (C.terms cache.old).sizes.block }
     requires text { length text.old ≡ reply_room }
     requires ready { C.ready cache.old 1 (R.device_size rig.old) }

@@ -11,10 +11,10 @@ use Rattle.dd_rig.specs.declared.device.Dev.{Dev}
 use Rattle.dd_rig.specs.declared.device.Dev.TheVariants as dev
 use Rattle.dd_model.specs.declared.kind.Kind.{Kind}
 use Rattle.dd_model.specs.declared.kind.Kind.TheVariants.{Hit, Join, Miss, Dup, New}
-use Rattle.dd_model.specs.State.{is_zero_block}
+use Rattle.dd_model.specs.State.{Entry, is_zero_block}
 use Rattle.dd_script.specs.Answers.{begins, faults_in}
 use Rattle.dd_script.specs.Counting.{is_hit, is_load, is_miss, is_update, hits_in, loads_in, misses_in, updates_in, mentions, is_calm, all_calm, dirty_behind, dirty_after}
-use Rattle.dd_script.specs.Text.{kind_word, out_text, drop_text, read_text, write_text, flushed_text, cleaned_text, ticked_text, bye_text, bad_text, fault_text, stop_text}
+use Rattle.dd_script.specs.Text.{kind_word, out_text, drop_text, read_text, write_text, flushed_text, cleaned_text, ticked_text, lists_text, stat_text, bye_text, bad_text, fault_text, stop_text}
 use Rattle.dd_script.specs.declared.reply.Stop.{Stop}
 use Rattle.dd_script.specs.declared.reply.Stop.TheVariants as stop
 use Rattle.dd_script.specs.declared.line.BadKind.{BadKind}
@@ -154,6 +154,12 @@ cleaned_counted = record { hits = refl; loads = refl; updates = refl }
 pub ticked_counted : Counted ticked_text 0 0 0
 ticked_counted = record { hits = refl; loads = refl; updates = refl }
 
+pub lists_counted : (entries : List Entry) (prints : List Fp) → Counted (lists_text entries prints) 0 0 0
+lists_counted entries prints = record { hits = refl; loads = refl; updates = refl }
+
+pub stat_counted : (count addresses blocks : ℕ) → Counted (stat_text count addresses blocks) 0 0 0
+stat_counted count addresses blocks = record { hits = refl; loads = refl; updates = refl }
+
 pub bad_counted : (kind : BadKind) → Counted (bad_text kind) 0 0 0
 bad_counted bad_is.Long = record { hits = refl; loads = refl; updates = refl }
 bad_counted bad_is.Word = record { hits = refl; loads = refl; updates = refl }
@@ -194,6 +200,12 @@ flushed_dirty acap n count = refl
 
 pub bye_dirty : (acap n count : ℕ) → dirty_behind acap n (bye_text count) ≡ n
 bye_dirty acap n count = refl
+
+pub lists_dirty : (acap n : ℕ) (entries : List Entry) (prints : List Fp) → dirty_behind acap n (lists_text entries prints) ≡ n
+lists_dirty acap n entries prints = refl
+
+pub stat_dirty : (acap n count addresses blocks : ℕ) → dirty_behind acap n (stat_text count addresses blocks) ≡ n
+stat_dirty acap n count addresses blocks = refl
 
 pub bad_dirty : (acap n : ℕ) (kind : BadKind) → dirty_behind acap n (bad_text kind) ≡ n
 bad_dirty acap n bad_is.Long = refl

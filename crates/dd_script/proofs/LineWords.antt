@@ -8,14 +8,14 @@ use Rattle.dd_rig.specs.declared.device.Dev.{Dev}
 use Rattle.dd_rig.specs.declared.device.Dev.TheVariants as dev
 use Rattle.dd_model.specs.declared.kind.Kind.{Kind}
 use Rattle.dd_model.specs.declared.kind.Kind.TheVariants.{Hit, Join, Miss, Dup, New}
-use Rattle.dd_model.specs.State.{Sizes, State, content}
+use Rattle.dd_model.specs.State.{Entry, Sizes, State, content}
 use Rattle.dd_model.specs.Reference.{read_answer, write_answer}
 use Rattle.dd_script.specs.declared.line.BadKind.{BadKind}
 use Rattle.dd_script.specs.declared.line.BadKind.TheVariants as bad_is
 use Rattle.dd_script.specs.declared.reply.Stop.{Stop}
 use Rattle.dd_script.specs.declared.reply.Stop.TheVariants as stop
 use Rattle.dd_script.specs.Line.{is_number}
-use Rattle.dd_script.specs.Text.{HasNoEnd, read_text, write_text, flushed_text, cleaned_text, ticked_text, bye_text, bad_text, fault_text, stop_text}
+use Rattle.dd_script.specs.Text.{HasNoEnd, read_text, write_text, flushed_text, cleaned_text, ticked_text, lists_text, stat_text, bye_text, bad_text, fault_text, stop_text}
 use Rattle.dd_script.specs.Command.{Command, read, write, after, after_all}
 use Rattle.dd_script.specs.Output.{reply_line}
 use Rattle.dd_script.specs.Answers.{is_answer, answered_one, first_some, acknowledged_by}
@@ -97,6 +97,12 @@ cleaned_acks = refl
 
 pub ticked_acks : acknowledged_by ticked_text ≡ None
 ticked_acks = refl
+
+pub lists_acks : (entries : List Entry) (prints : List Fp) → acknowledged_by (lists_text entries prints) ≡ None
+lists_acks entries prints = refl
+
+pub stat_acks : (count addresses blocks : ℕ) → acknowledged_by (stat_text count addresses blocks) ≡ None
+stat_acks count addresses blocks = refl
 
 -- a line that acknowledges nothing
 pub no_acks : (line : List ℕ) (m : ℕ) → acknowledged_by line ≡ None → IfSome (acknowledged_by line) (λ n. n ≤ m)

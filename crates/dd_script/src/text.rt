@@ -97,7 +97,6 @@ fn put_counted(into: &mut [u8], at: usize, words: &[u8], count: u32) -> usize
 pub fn list_a(row: ARow, into: &mut [u8]) -> usize
     requires { 32 ≤ length into.old }
     ensures text { take result into.new ≡ address_text row.address (is_link row.link) }
-    ensures line { HasNoEnd (address_text row.address (is_link row.link)) }
     ensures fits { result ≤ 32 }
 {
     let space = put(into, 0, b" ");
@@ -121,7 +120,6 @@ fn dash(link: Link) -> &'static [u8]
 pub fn list_b(row: BRow, into: &mut [u8]) -> usize
     requires { 32 ≤ length into.old }
     ensures text { take result into.new ≡ print_text row.fp }
-    ensures line { HasNoEnd (print_text row.fp) }
     ensures fits { result ≤ 32 }
 {
     let space = put(into, 0, b" ");

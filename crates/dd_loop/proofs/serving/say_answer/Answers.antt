@@ -11,7 +11,7 @@ use Rattle.dd_loop.specs.declared.halt.Halt.TheVariants.{Output}
 use Rattle.dd_script.proofs.Handing.{handed_on}
 use Rattle.dd_loop.proofs.Answering.{line_within, line_cut}
 use Rattle.dd_loop.proofs.Faults.{counts_later}
-use Rattle.dd_loop.proofs.serving.answer_line.Goals as goal
+use Rattle.dd_loop.proofs.serving.say_answer.Goals as goal
 
 pub returns-in_err-say-in-Some-clause-crash : goal.returns-in_err-say-in-Some-clause-crash
 returns-in_err-say-in-Some-clause-crash g c = λ t first one s kept.
