@@ -1,5 +1,6 @@
 pub mod Costs
 pub mod Spent
+pub mod Pieces
 pub mod Stepping
 pub mod Replying
 pub mod Finishing

@@ -1,4 +1,5 @@
 pub mod Answering
+pub mod Listed
 pub mod Costs
 pub mod Laws
 pub mod Headline

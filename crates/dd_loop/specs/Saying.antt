@@ -1,11 +1,11 @@
 -- What a run has said and asked of its devices.
-use Rattle.std.specs.Prelude.{◌≡◌, ◌⊎◌, ℕ, List, [], ◌∷◌, ◌++◌, take, Result, OnOk}
+use Rattle.std.specs.Prelude.{◌≡◌, ◌⊎◌, ℕ, List, [], ◌∷◌, ◌++◌, take}
 use Rattle.std.specs.List.{AllByRecursion, flat_map}
 use Rattle.dd_rig.specs.declared.tallies.Counts.{Counts}
 use Rattle.dd_rig.specs.Counts.{Rose}
 use Rattle.dd_rig.specs.declared.device.Dev.TheVariants.{Flash}
 use Rattle.dd_rig.specs.Clock.{Clock, Elapses}
-use Rattle.dd_rig.specs.World.{World, SaysSome, WithinEmit, say, shown}
+use Rattle.dd_rig.specs.World.{World, SaysSome, WithinEmit, shown}
 use Rattle.dd_script.specs.Text.{HasNoEnd, ended}
 
 -- that line alone was said, or an emit failed and a part of it was
@@ -13,9 +13,8 @@ abbrev pub SaysAlone : List ℕ → Counts → Counts → World → World → Ty
 SaysAlone line before after old new =
     (new.said ≡ old.said ++ ended line) ⊎ (Rose before.failed_emits after.failed_emits × (n : ℕ) × (new.said ≡ old.said ++ take n (ended line)))
 
--- a piece goes out: whole with an Ok, and in part at least; a crash within it leaves a part of it
-pub record SaysPiece {T E : Type 0} (piece : List ℕ) (result : Result T E) (before after : Clock) (old new : World) : Type 0 where
-  pub said : OnOk result (new ≡ say piece old)
+-- a piece goes out, in whole or in part, and a crash within that leaves a part of it
+pub record SaysPiece (piece : List ℕ) (before after : Clock) (old new : World) : Type 0 where
   pub part : SaysSome piece old new
   pub within : Elapses before after (WithinEmit piece old)
 

@@ -4,7 +4,7 @@ ghost use Rattle.dd_rig.specs.declared.device.Dev.{Dev};
 ghost use Rattle.dd_rig.specs.declared.tallies.Counts.{Counts};
 ghost use Rattle.dd_rig.specs.Clock.{Elapses};
 ghost use Rattle.dd_rig.specs.Counts.{Frame, Rose};
-ghost use Rattle.dd_rig.specs.World.{World};
+ghost use Rattle.dd_rig.specs.World.{World, say};
 ghost use Rattle.dd_block.specs.declared.print.Fp.{Fp};
 ghost use Rattle.dd_model.specs.State.{Entry, State};
 ghost use Rattle.dd_script.specs.Line.{told, asks_lists, IsIn};
@@ -103,7 +103,8 @@ pub trait Cache<R: Rig> {
     fn list(&self, rig: &mut R, text: &mut [u8]) -> Result<(), Halt>
         requires text { length text.old ≡ reply_room }
         ensures says { R.tells → (first : World) (c s : State) → kept self.now first (R.world rig.old) c s
-            → SaysPiece (ended (lists_line (terms self.now) s)) result (R.clock rig.old) (R.clock rig.new) (R.world rig.old) (R.world rig.new) }
+            → SaysPiece (ended (lists_line (terms self.now) s)) (R.clock rig.old) (R.clock rig.new) (R.world rig.old) (R.world rig.new) }
+        ensures said { R.tells → (first : World) (c s : State) → kept self.now first (R.world rig.old) c s → OnOk result (R.world rig.new ≡ say (ended (lists_line (terms self.now) s)) (R.world rig.old)) }
         ensures devices { R.tells → ((R.world rig.new).flash ≡ (R.world rig.old).flash) × ((R.world rig.new).disk ≡ (R.world rig.old).disk) }
         ensures idle { IsIdle (R.counts rig.old) (R.counts rig.new) }
         ensures halt { OnErr result (result ≡ Err Output) }

@@ -59,7 +59,7 @@ returns-clause-answer g c = λ t first one s kept.
     let cost : Costs (line ∷ []) 0 before after = g.met.C.Cache.idle c.args.cache.now c.args.cache.now (line ∷ []) 0 before before after c.list.ensures.idle.0 c.list.ensures.idle.1 free in
     let devices = c.list.ensures.devices t in
     lists_said (g.C.Cache.stands terms first) terms.print terms.sizes one s (g.C.Cache.kept c.args.cache.now first new) (λ ls. Pays Costs before after ls 0) old new
-    (g.met.C.Cache.unsaid c.args.cache.now first old new one s devices.0 devices.1 kept) (lists_paid terms.print terms.sizes s Costs before after c.list.ensures.frame.0 cost) (c.in_ok-list.ensures.says t first one s kept).said
+    (g.met.C.Cache.unsaid c.args.cache.now first old new one s devices.0 devices.1 kept) (lists_paid terms.print terms.sizes s Costs before after c.list.ensures.frame.0 cost) (c.in_ok-list.ensures.said t first one s kept)
 
 pub returns-in_err-list-clause-does : goal.returns-in_err-list-clause-does
 returns-in_err-list-clause-does g c =
