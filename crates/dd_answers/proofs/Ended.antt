@@ -33,7 +33,7 @@ use Rattle.dd_loop.specs.Serving.{ServedUpTo}
 use Rattle.dd_loop.proofs.Reading.{commands_some}
 use Rattle.dd_store.specs.Serving.{StoreOf}
 use Rattle.dd_answers.specs.Headline.{IsUnopened}
-use Rattle.dd_answers.specs.Opening.{ending_of, IsUnserved, Refuses}
+use Rattle.dd_answers.specs.Opening.{ending_of, IsUnserved, RefusesDevices}
 use Rattle.dd_answers.specs.Serving.{Caused, Ends, LinesPaid, IsBounded, IsServed, LoopEnds, Serves}
 use Rattle.dd_answers.specs.Costs.{calls_of}
 use Rattle.dd_answers.proofs.Finishing.{unserved}
@@ -294,7 +294,7 @@ serves_since print sizes start script opening status old middle new before betwe
 -- how a refused run ends
 pub refuses_so : (fault : OpenFault) (size : Dev → ℕ) (before between after : Counts) (old middle new : World) → IsFirstFault size old.flash.shown fault × (why : Refusal) × (ending_of fault ≡ Refused why) → (ending : Ending) → ending ≡ ending_of fault
     → NeverFalls before between → middle.said ≡ old.said → ((device : Dev) → shown device middle ≡ shown device old) → SaysLast (ending_line ending) between after middle new → (new.flash ≡ middle.flash) × (new.disk ≡ middle.disk)
-    → Refuses size old.flash.shown before after old new
+    → RefusesDevices size old.flash.shown before after old new
 refuses_so fault size before between after old middle new first ending is falls same shows says devices = record {
   fault = fault;
   first = first.0;
