@@ -39,7 +39,7 @@ entry_cond true row = refl
 entry_cond false row = refl
 
 -- zeros differ from what isn't zeros
-zeros_differ : (x y : List ℕ) → is_zero_block x ≡ true → is_zero_block y ≡ false → bytes_eq x y ≡ false
+pub zeros_differ : (x y : List ℕ) → is_zero_block x ≡ true → is_zero_block y ≡ false → bytes_eq x y ≡ false
 zeros_differ x y is isnt =
     elim (bytes_eq x y) as (λ t. (t ≡ true → x ≡ y) → t ≡ false) [ true ↦ λ same. absurd (false≢true (sym isnt ∙ ap is_zero_block (sym (same refl)) ∙ is)) | false ↦ λ same. refl ] (bytes_eq-Decides x y).0
 

@@ -20,6 +20,7 @@ mod Known
 pub mod Mapped
 mod Moved
 pub mod Oldest
+pub mod Orphaned
 mod Pigeon
 pub mod RecordLaws
 pub mod Recorded

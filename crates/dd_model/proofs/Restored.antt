@@ -1,5 +1,5 @@
 -- Rows that fit make lists of which holds what holds of all.
-use Rattle.std.proofs.Common.{◌≡◌, ℕ, ◌+◌, ◌≤◌, ◌==◌, Bool, true, false, cond, List, [], ◌∷◌, length, map, refl, ◌∙◌, ap, arith, Some, None}
+use Rattle.std.proofs.Common.{◌≡◌, ℕ, ◌+◌, ◌≤◌, ◌==◌, Bool, true, false, cond, List, [], ◌∷◌, length, map, refl, sym, ◌∙◌, ap, arith, Some, None}
 use Rattle.std.specs.Prelude.{Option, ◌||◌}
 use Rattle.std.specs.List.{IsDistinct}
 use Rattle.std.proofs.lemmas.Bool.{eq-eqb, or_left, or_right, both_ways}
@@ -59,14 +59,21 @@ listed_addresses address (row ∷ rows) h = by_test (row.address == address) ref
     by_test true here e rest = ap (λ b. b || is_among address (map (λ (r : ARow). r.address) rows)) (nat_eq_equiv.symm address row.address ∙ here)
     by_test false away e rest = or_right (address == row.address) (is_among address (map (λ (r : ARow). r.address) rows)) (rest e)
 
--- the dirty addresses are no more than may be listed
-pub dirty_few : (lists : Listing) → IsListing lists → length lists.dirty ≤ lists.acap
-dirty_few lists kept = omega (
+-- the dirty addresses are listed
+pub dirty_listed : (lists : Listing) → IsListing lists → length lists.dirty ≤ length lists.table.a
+dirty_listed lists kept = omega (
   arith,
   few_among (λ address. is_dirty_at address lists.table.a) lists.dirty (map (λ (row : ARow). row.address) lists.table.a) kept.dirty_ones (λ n h. listed_addresses n lists.table.a h),
   length-map lists.table.a (λ (row : ARow). row.address),
-  kept.a_few,
 )
+
+-- so they are no more than may be listed
+pub dirty_few : (lists : Listing) → IsListing lists → length lists.dirty ≤ lists.acap
+dirty_few lists kept = omega (arith, dirty_listed lists kept, kept.a_few)
+
+-- where none is among the dirty ones no address is dirty
+pub none_dirty_at : (lists : Listing) → IsListing lists → lists.dirty ≡ [] → (address : ℕ) → is_dirty_at address lists.table.a ≡ false
+none_dirty_at lists kept none address = sym (kept.dirty_ones.each address) ∙ ap (is_among address) none
 
 none_among : (numbers : List ℕ) → ((n : ℕ) → is_among n numbers ≡ false) → numbers ≡ []
 none_among [] h = refl

@@ -8,7 +8,7 @@ ghost use Rattle.dd_rig.specs.Counts.{Frame, Makes, plus, up_to, nothing, Rose};
 ghost use Rattle.dd_slots.specs.Numbers.{Enumerates};
 ghost use Rattle.dd_slots.specs.Slots.{count_of, slots_end};
 
-use crate::{Block, Cut, Misfit, Victims, Want};
+use crate::{Block, Cut, Misfit, Orphans, Victims, Want};
 use dd_block::Fp;
 use dd_record::{ARow, BRow, Rows};
 use dd_rig::{Failed, Rig};
@@ -29,6 +29,7 @@ pub trait Lists: Rows + Drop {
     ghost use Rattle.dd_model.specs.Listing.{victims_of, victims_from, IsReferrer, is_referrer, IsWalked, next_of, without};
     ghost use Rattle.dd_model.specs.Listing.{made_clean, MayRestore, misfit_of, restored};
     ghost use Rattle.dd_model.specs.Confirming.{IsCandidate, candidates, Confirms};
+    ghost use Rattle.dd_model.specs.Orphans.{orphans_of};
 
     /// Both lists, how long they may be, and the dirty addresses by age.
     ghost listing: { Self → Listing };
@@ -124,6 +125,11 @@ pub trait Lists: Rows + Drop {
         ensures ok { IfOk result (λ _. listing self.new ≡ restored (record { b = b.now; a = a.now }) (listing self.old)) }
         ensures fault { GivesFault result (misfit_of (record { b = b.now; a = a.now })) }
         ensures refused { OnErr result (listing self.new ≡ listing self.old) };
+
+    /// How many listed addresses aren't linked, and how many listed blocks no address is linked to. It
+    /// takes no memory; its time may be that of a walk along the addresses for each listed block.
+    fn orphans(&self) -> Orphans
+        ensures { result ≡ orphans_of (listing self.now).table };
 
     /// The rows that `Rows` shows are these.
     ghost same_a: { (lists : Self) → Self.a_rows lists ≡ (listing lists).table.a };

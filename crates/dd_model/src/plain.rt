@@ -4,13 +4,14 @@ ghost use Rattle.std.proofs.Props.{props};
 ghost use Rattle.dd_model.specs.Listing.{IsListing, listing_of};
 
 use crate::misfit::find_misfit;
+use crate::orphans::{count_unlinked, count_unreferred};
 use crate::search::confirm;
 use crate::touching::{is_new, mark_dirty, row_of, touch_rows, victims_in};
 use crate::vectors::{
     behind_address, behind_number, behind_slot, clean, fill, find_address, find_referrer,
     find_slot, list_dirty, next_referrer, take_out_number,
 };
-use crate::{Block, Cut, Lists, Misfit, Victims, Want};
+use crate::{Block, Cut, Lists, Misfit, Orphans, Victims, Want};
 use dd_block::Fp;
 use dd_record::{ARow, BRow, Rows};
 use dd_rig::{Failed, Rig};
@@ -18,7 +19,7 @@ use dd_slots::Slots;
 use std::alloc::{AllocError, Global};
 
 /// Both recency lists and the dirty addresses in a vector each. Each call but `oldest_dirty` takes
-/// time in proportion to the rows, and `restore` to their square.
+/// time in proportion to the rows, and `restore` and `orphans` to their square.
 #[derive(Drop)]
 pub struct PlainLists {
     acap: u32,
@@ -167,6 +168,15 @@ impl Lists for PlainLists {
                 list_dirty(a, &mut self.dirty);
                 Ok(())
             }
+        }
+    }
+
+    fn orphans(&self) -> Orphans {
+        let acap = self.acap;
+        let bcap = self.bcap;
+        Orphans {
+            a: count_unlinked(&self.a),
+            b: count_unreferred(&self.b, &self.a),
         }
     }
 }

@@ -1,7 +1,9 @@
 pub mod Agreeing
+pub mod Aligned
 pub mod Altering
 pub mod Answered
 pub mod Brought
+pub mod Calm
 pub mod Carried
 pub mod Cleaning
 pub mod Committing
@@ -11,6 +13,7 @@ pub mod Finding
 pub mod Flushing
 pub mod Fresh
 pub mod Growing
+pub mod Hits
 pub mod Holding
 pub mod Kept
 pub mod Known

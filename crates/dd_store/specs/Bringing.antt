@@ -97,6 +97,18 @@ saves kind.Miss = 1
 saves kind.Dup = 0
 saves kind.New = 1
 
+-- nothing fell off both lists
+abbrev pub IsCalm : Cut → Type 0
+IsCalm cut = (cut.out ≡ None) × (cut.drop ≡ None)
+
+-- how many reads of the disk a read of this kind makes, where nothing falls off
+abbrev pub fetches : Kind → ℕ
+fetches kind.Hit = 0
+fetches kind.Join = 1
+fetches kind.Miss = 1
+fetches kind.Dup = 1
+fetches kind.New = 1
+
 -- whether a reference of such a block has to wait for a commit: there is no room for its record, or no free slot for its block
 abbrev pub must_commit : Want → StoreView → Bool
 must_commit want store = nat_le store.journal.geo.group (length store.pending) || (is_fresh want && not (has_spare store.uses))

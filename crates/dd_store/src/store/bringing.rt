@@ -8,7 +8,7 @@ ghost use Rattle.dd_record.specs.declared.row.Link.TheVariants.{Lost};
 ghost use Rattle.dd_record.specs.Spelling.{IsRec};
 ghost use Rattle.dd_record.specs.Table.{link_at};
 ghost use Rattle.dd_record.specs.Replay.{touch_of, raises};
-ghost use Rattle.dd_model.specs.declared.kind.Kind.TheVariants.{Miss, New};
+ghost use Rattle.dd_model.specs.declared.kind.Kind.TheVariants.{Hit, Miss, New};
 ghost use Rattle.dd_model.specs.declared.given.Want.TheVariants.{Fresh as FreshBlock};
 ghost use Rattle.dd_model.specs.declared.given.Block.TheVariants.{Known as KnownBlock};
 ghost use Rattle.dd_model.specs.Confirming.{candidates};
@@ -49,6 +49,7 @@ impl<F: Fingerprint, L: Lists> Store<F, L> {
             → Serves (F.printed self.old.print) result (R.clock rig.old) (R.clock rig.new) self.new.store (R.world rig.new) c s (reference (sizes_of self.old.store.journal.geo) s address block.now) }
         ensures tells { R.tells → (c s : State) → Kept (F.printed self.old.print) self.old.store (R.world rig.old) c s → (dirty ≡ false → block.now ≡ content s.array address)
             → IfOk result (λ done. Tells (F.printed self.old.print) done (answer_for dirty (sizes_of self.old.store.journal.geo) s address block.now)) }
+        ensures no_hit { IfOk result (λ done. done.kind ≢ Hit) }
         ensures unsaid { R.tells → Elapses (R.clock rig.old) (R.clock rig.new) (λ o. o.out ≡ (R.world rig.old).said) }
         ensures said { R.tells → (R.world rig.new).said ≡ (R.world rig.old).said }
         ensures rows { IfOk result (References address dirty self.old.store self.new.store) }

@@ -19,6 +19,7 @@ use Rattle.dd_store.specs.Serving.{StoreOf, Serves, store_of}
 use Rattle.dd_store.proofs.Answered.{kind_at_hand}
 use Rattle.dd_store.proofs.Brought.{kept_behind, serves_behind, serves_failed}
 use Rattle.dd_store.proofs.Costs.{references_behind, little_fresh, little_known, disk_fresh, given_below}
+use Rattle.dd_store.proofs.Hits.{known_no_hit, fresh_no_hit}
 use Rattle.dd_store.proofs.Located.{carries_listed, carries_zeros}
 use Rattle.dd_store.proofs.store.Store.bring.Goals as goal
 
@@ -158,3 +159,12 @@ returns-in-Some-clause-little g c = little_known c.args.address (candidates (g.F
     (g.R.Rig.counts c.args.rig.now) (g.R.Rig.counts c.find_block.new.rig) (g.R.Rig.counts c.join-in-Some.new.rig)
     (subst (λ fp. Makes (up_to (candidates fp c.args.self.now.store.table.b) 0 0) nothing (g.R.Rig.counts c.args.rig.now) (g.R.Rig.counts c.find_block.new.rig)) (c.print-fp.ensures ∙ ap (λ (v : StoreOf g.row.F.Denot). g.F.Fingerprint.printed v.print c.args.block.now) c.self.view_is) c.find_block.ensures.calls)
     c.in-Some.slot (λ prepared. ap g.R.Rig.counts (c.join-in-Some.ensures.at_once prepared).1) c.join-in-Some.result c.join-in-Some.ensures.kind
+
+pub returns-then-is_zero-clause-no_hit : goal.returns-then-is_zero-clause-no_hit
+returns-then-is_zero-clause-no_hit g c = known_no_hit c.args.dirty c.join.result c.join.ensures.kind
+
+pub returns-in-None-clause-no_hit : goal.returns-in-None-clause-no_hit
+returns-in-None-clause-no_hit g c = fresh_no_hit c.args.dirty c.enter.result c.enter.ensures.kind
+
+pub returns-in-Some-clause-no_hit : goal.returns-in-Some-clause-no_hit
+returns-in-Some-clause-no_hit g c = known_no_hit c.args.dirty c.join-in-Some.result c.join-in-Some.ensures.kind

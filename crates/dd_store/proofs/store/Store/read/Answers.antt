@@ -1,25 +1,33 @@
 use Rattle.std.proofs.Common.{◌≡◌, ◌<◌, inl, inr, ℕ, List, length, false, Some, refl, sym, ◌∙◌, ap, subst, replicate}
 use Rattle.std.specs.Prelude.{IfOk}
 use Rattle.dd_block.specs.Geometry.{slot_count}
+use Rattle.dd_rig.specs.Counts.{CalledAtMost, Rose, nothing}
+use Rattle.dd_rig.specs.declared.tallies.Counts.{Counts}
 use Rattle.dd_record.specs.declared.rec.Rec.TheVariants.{Hit}
 use Rattle.dd_record.specs.declared.row.Link.TheVariants.{Lost, Slot, Zero}
 use Rattle.dd_record.specs.Table.{is_link, link_at, is_dirty_at}
 use Rattle.dd_record.specs.Replay.{touch_of}
 use Rattle.dd_model.specs.declared.done.Done.{Done}
 use Rattle.dd_model.specs.declared.given.Block.TheVariants.{Known}
+use Rattle.dd_model.specs.declared.given.Want.TheVariants as wants
 use Rattle.dd_model.specs.Confirming.{candidates}
 use Rattle.dd_model.specs.Listing.{IsGiven, touch_by}
 use Rattle.dd_model.specs.Reference.{reference, read_answer, Tells}
 use Rattle.dd_model.specs.State.{content, is_zero_block}
+use Rattle.dd_model.proofs.AlignmentLaws.{read-no_rewrite}
 use Rattle.dd_model.proofs.Records.{hit_touch, link_given}
 use Rattle.dd_model.proofs.Zeros.{zeros_are, zeros_same}
 use Rattle.dd_store.specs.Keeping.{StoreView, IsStore, Kept}
 use Rattle.dd_store.specs.Meaning.{sizes_of}
 use Rattle.dd_store.specs.Referring.{listing_in}
 use Rattle.dd_store.specs.Serving.{Serves}
+use Rattle.dd_store.proofs.Aligned.{aligned_on}
 use Rattle.dd_store.proofs.Brought.{kept_behind, serves_behind, serves_failed}
+use Rattle.dd_store.proofs.Calm.{calm_by, calm_fetched, calm_hit}
 use Rattle.dd_store.proofs.Costs.{references_behind, listed_below, lost_clean, little_read, also}
+use Rattle.dd_store.proofs.Hits.{hit_never, hit_rose, hit_zeros}
 use Rattle.dd_store.proofs.Located.{content_long, slot_linked, zero_linked, carries_listed, carries_zeros}
+use Rattle.dd_store.proofs.Prepared.{room_hit}
 use Rattle.dd_store.proofs.Telling.{kind_hit}
 use Rattle.dd_store.proofs.store.Store.read.Goals as goal
 
@@ -171,3 +179,46 @@ returns-in-Zero-clause-answer g c = λ told was s kept.
     zeros_same c.fill.new.self (content s.array c.args.address) (ap is_zero_block filled ∙ zeros_are (length c.args.into.now)) zeros (c.fill.ensures.len ∙ c.requires.long ∙ sym long) in
     also (c.fill.new.self ≡ content s.array c.args.address) (λ done. Tells print done (read_answer (sizes_of c.args.self.now.store.journal.geo) s c.args.address)) c.join-in-Zero.result has
     (c.join-in-Zero.ensures.tells told was s kept (content s.array c.args.address) carries hit)
+
+pub returns-in-Ok-clause-hit_reads : goal.returns-in-Ok-clause-hit_reads
+returns-in-Ok-clause-hit_reads g c = hit_never (Rose (g.R.Rig.counts c.args.rig.now).flash.reads (g.R.Rig.counts c.bring.new.rig).flash.reads) (is_zero_block c.read_disk.new.into ≡ false) c.bring.result c.bring.ensures.no_hit
+
+pub returns-in-Ok-read_slot-clause-hit_reads : goal.returns-in-Ok-read_slot-clause-hit_reads
+returns-in-Ok-read_slot-clause-hit_reads g c = hit_rose (is_zero_block c.read_slot.new.into ≡ false) (g.R.Rig.counts c.args.rig.now) (g.R.Rig.counts c.read_slot.new.rig) (g.R.Rig.counts c.join.new.rig) c.read_slot.result c.read_slot.ensures.counts c.join.ensures.frame.0.flash.reads c.join.result
+
+pub returns-in-Zero-clause-hit_reads : goal.returns-in-Zero-clause-hit_reads
+returns-in-Zero-clause-hit_reads g c =
+    let filled : c.fill.new.self ≡ replicate (length c.args.into.now) 0 = c.fill.ensures.after (λ y same. same) in
+    hit_zeros (Rose (g.R.Rig.counts c.args.rig.now).flash.reads (g.R.Rig.counts c.join-in-Zero.new.rig).flash.reads) c.fill.new.self (ap is_zero_block filled ∙ zeros_are (length c.args.into.now)) c.join-in-Zero.result
+
+pub returns-in-Ok-clause-calm : goal.returns-in-Ok-clause-calm
+returns-in-Ok-clause-calm g c =
+    let middle = g.R.Rig.counts c.read_disk.new.rig in
+    let last = g.R.Rig.counts c.bring.new.rig in
+    calm_fetched (g.R.Rig.counts c.args.rig.now) middle last c.read_disk.result c.read_disk.ensures.counts c.bring.result c.bring.ensures.no_hit
+    (calm_by c.args.address false c.read_disk.new.self.store c.bring.new.self.store (CalledAtMost nothing middle.disk last.disk) c.bring.result c.bring.ensures.rows c.bring.ensures.disk)
+
+pub returns-in-Ok-read_slot-clause-calm : goal.returns-in-Ok-read_slot-clause-calm
+returns-in-Ok-read_slot-clause-calm g c =
+    let linked : link_at c.args.address c.args.self.now.store.table.a ≡ Slot c.in-Slot.slot = sym c.link.ensures.link ∙ c.in-Slot.is in
+    let still : link_at c.args.address c.read_slot.new.self.store.table.a ≡ Slot c.in-Slot.slot = ap (λ (v : StoreView). link_at c.args.address v.table.a) c.read_slot.ensures.store ∙ linked in
+    let last = g.R.Rig.counts c.join.new.rig in
+    let none = c.join.ensures.disk (room_hit c.read_slot.new.self.store c.args.address (wants.Slot c.in-Slot.slot) (ap is_link still) refl) in
+    calm_hit (g.R.Rig.counts c.args.rig.now).disk last.disk (subst (λ (m : Counts). CalledAtMost nothing m.disk last.disk) c.read_slot.ensures.counts none) c.join.result
+
+pub returns-in-Zero-clause-calm : goal.returns-in-Zero-clause-calm
+returns-in-Zero-clause-calm g c =
+    let linked : link_at c.args.address c.args.self.now.store.table.a ≡ Zero = sym c.link.ensures.link ∙ c.in-Zero.is in
+    calm_hit (g.R.Rig.counts c.args.rig.now).disk (g.R.Rig.counts c.join-in-Zero.new.rig).disk (c.join-in-Zero.ensures.disk (room_hit c.args.self.now.store c.args.address wants.Zero (ap is_link linked) refl)) c.join-in-Zero.result
+
+pub returns-in-Ok-clause-aligned : goal.returns-in-Ok-clause-aligned
+returns-in-Ok-clause-aligned g c = λ told was s kept aligned.
+    aligned_on (g.F.Fingerprint.printed c.args.self.now.print) c.args.self.now.store (g.R.Rig.world c.args.rig.now) s kept.holds c.args.address (content s.array c.args.address) c.requires.below (read-no_rewrite s c.args.address) aligned c.bring.result
+
+pub returns-in-Ok-read_slot-clause-aligned : goal.returns-in-Ok-read_slot-clause-aligned
+returns-in-Ok-read_slot-clause-aligned g c = λ told was s kept aligned.
+    aligned_on (g.F.Fingerprint.printed c.args.self.now.print) c.args.self.now.store (g.R.Rig.world c.args.rig.now) s kept.holds c.args.address (content s.array c.args.address) c.requires.below (read-no_rewrite s c.args.address) aligned c.join.result
+
+pub returns-in-Zero-clause-aligned : goal.returns-in-Zero-clause-aligned
+returns-in-Zero-clause-aligned g c = λ told was s kept aligned.
+    aligned_on (g.F.Fingerprint.printed c.args.self.now.print) c.args.self.now.store (g.R.Rig.world c.args.rig.now) s kept.holds c.args.address (content s.array c.args.address) c.requires.below (read-no_rewrite s c.args.address) aligned c.join-in-Zero.result
