@@ -260,8 +260,8 @@ module _ (line : List ℕ) (before between after : Counts) (falls : NeverFalls b
   says_since old middle new same (inr cut) = inr (omega (arith, cut.0, falls.emits), cut.1, cut.2 ∙ ap (λ (l : List ℕ). l ++ take cut.1 (ended line)) same)
 
 -- the opening syncs the disk at most
-pub opened_calls : {flash : Quota} {a b : Counts} → Makes flash (up_to 0 1 0) a b → calls_of b.disk ≤ calls_of a.disk + 1
-opened_calls makes = omega (arith, makes.1.0, makes.1.1.0)
+pub opened_calls : (flash : Quota) (a b : Counts) → Makes flash (up_to 0 1 0) a b → calls_of b.disk ≤ calls_of a.disk + 1
+opened_calls flash a b makes = omega (arith, makes.1.0, makes.1.1)
 
 -- what a run says behind calls that say nothing
 pub serves_since : (print : List ℕ → Fp) (sizes : Sizes) (start : State) (script : List ℕ) (opening : ℕ) (status : ℕ) (old middle new : World) (before between after : Counts) → NeverFalls before between → NeverFalls between after → calls_of between.disk ≤ calls_of before.disk + opening → middle.said ≡ old.said
