@@ -32,6 +32,7 @@ references_unlaid : (address : ℕ) (dirty : Bool) (old now : StoreView) (done :
 references_unlaid address dirty old now done was = record {
   middle = was.middle;
   cleans = cleans_unlaid old was.middle was.cleans;
+  own = was.own;
   its = was.its;
   touch = was.touch;
   fits = was.fits;

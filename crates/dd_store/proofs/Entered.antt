@@ -25,7 +25,7 @@ use Rattle.dd_model.specs.State.{State, content, is_zero_block, is_known, is_at_
 use Rattle.dd_journal.specs.Sitting.{JournalView}
 use Rattle.dd_store.specs.declared.fault.StoreFault.TheVariants.{FlashWrite}
 use Rattle.dd_store.specs.Bringing.{IsPrepared, Carries, answer_for}
-use Rattle.dd_store.specs.Keeping.{StoreView, IsStore, Kept, is_spare}
+use Rattle.dd_store.specs.Keeping.{StoreView, IsStore, Holds, Kept, is_spare}
 use Rattle.dd_store.specs.Meaning.{Stands, sizes_of}
 use Rattle.dd_store.specs.Referring.{RecordFits, referred_store, listing_in}
 use Rattle.dd_store.specs.Serving.{HasLimits, Serves, store_of}
@@ -35,7 +35,7 @@ use Rattle.dd_store.proofs.Known.{known_listing, listing_same}
 use Rattle.dd_store.proofs.Located.{carries_fresh}
 use Rattle.dd_store.proofs.Prepared.{room_may}
 use Rattle.dd_store.proofs.Referred.{referred_is}
-use Rattle.dd_store.proofs.Referring.{kept_referred}
+use Rattle.dd_store.proofs.Referring.{holds_referred, kept_referred}
 use Rattle.dd_store.proofs.Telling.{kind_miss, kind_new}
 use Rattle.dd_store.proofs.Uses.{spare_unlisted}
 
@@ -81,6 +81,14 @@ module _ (is_up : Bool) (journal : JournalView) (lists : Listing) (count : ℕ) 
 
       pub entered_is : address < journal.geo.blocks → slot < journal.geo.bcap + journal.geo.spare → IsFp fp → IsStore (referred_store its touch was)
       entered_is below within printed = referred_is was is its touch entered_fits (below, within, printed) prepared.free
+
+      -- what is held then, whatever is committed
+      pub entered_holds : (print : List ℕ → Fp) (world : World) (s : State) → Holds print was world s → (block : List ℕ) (below : address < journal.geo.blocks) (long : length block ≡ journal.geo.block)
+          → slot_block journal.geo world.flash.shown slot ≡ block → fp ≡ print block → is_zero_block block ≡ false → is_known block s.blocks ≡ false → (dirty ≡ false → block ≡ content s.array address)
+          → Holds print (referred_store its touch was) world (reference (sizes_of journal.geo) s address block)
+      entered_holds print world s holds block below long there printed some unknown read =
+          holds_referred print was world s is holds its touch block
+          (refers_of print was world.flash.shown s its touch block entered_fits (carries_fresh print was world s holds address below block dirty long read slot fp (spare_unlisted was is slot spare) there printed some unknown))
 
       module _ (print : List ℕ → Fp) (world : World) (c s : State) (kept : Kept print was world c s) (block : List ℕ) (below : address < journal.geo.blocks) (long : length block ≡ journal.geo.block)
           (there : slot_block journal.geo world.flash.shown slot ≡ block) (printed : fp ≡ print block) (some : is_zero_block block ≡ false) (unknown : is_known block s.blocks ≡ false)

@@ -15,6 +15,7 @@ pub mod Fresh
 pub mod Growing
 pub mod Hits
 pub mod Holding
+pub mod Keeping
 pub mod Kept
 pub mod Known
 pub mod Laying

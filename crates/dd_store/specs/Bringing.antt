@@ -14,6 +14,7 @@ use Rattle.dd_record.specs.declared.rec.Rec.TheVariants.{Store}
 use Rattle.dd_record.specs.declared.row.Link.{Link}
 use Rattle.dd_record.specs.declared.row.Link.TheVariants as links
 use Rattle.dd_record.specs.Replay.{Touch}
+use Rattle.dd_record.specs.Table.{is_dirty_at}
 use Rattle.dd_model.specs.declared.done.Cut.{Cut}
 use Rattle.dd_model.specs.declared.done.Done.{Done}
 use Rattle.dd_model.specs.declared.given.Block.TheVariants.{Fresh}
@@ -54,6 +55,7 @@ pub record Carries (print : List ℕ → Fp) (store : StoreView) (flash : List �
 pub record References (address : ℕ) (dirty : Bool) (old new : StoreView) (done : Done) : Type 0 where
   pub middle : StoreView
   pub cleans : Cleans old middle
+  pub own : is_dirty_at address middle.table.a ≡ is_dirty_at address old.table.a
   pub its : Rec
   pub touch : Touch
   pub fits : RecordFits middle its touch

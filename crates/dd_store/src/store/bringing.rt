@@ -6,7 +6,7 @@ ghost use Rattle.dd_rig.specs.Counts.{Frame, Makes, CalledAtMost, up_to, nothing
 ghost use Rattle.dd_layout.specs.Layout.{slot_block, flash_need};
 ghost use Rattle.dd_record.specs.declared.row.Link.TheVariants.{Lost};
 ghost use Rattle.dd_record.specs.Spelling.{IsRec};
-ghost use Rattle.dd_record.specs.Table.{link_at};
+ghost use Rattle.dd_record.specs.Table.{is_dirty_at, link_at};
 ghost use Rattle.dd_record.specs.Replay.{touch_of, raises};
 ghost use Rattle.dd_model.specs.declared.kind.Kind.TheVariants.{Hit, Miss, New};
 ghost use Rattle.dd_model.specs.declared.given.Want.TheVariants.{Fresh as FreshBlock};
@@ -21,7 +21,7 @@ ghost use Rattle.dd_store.specs.Keeping.{IsStore, Holds, Kept};
 ghost use Rattle.dd_store.specs.Referring.{listing_in, is_fresh_block, kind_of};
 ghost use Rattle.dd_store.specs.Rounds.{Cleans, HasRoom, LoadsAtMost};
 ghost use Rattle.dd_store.specs.Bringing.{IsPrepared, must_commit, Carries, References, FoundAs, answer_for, want_for, saves, IsReadFault};
-ghost use Rattle.dd_store.specs.Serving.{IsReady, MayCall, Serves, StaysUp, Faulted, GrowsLittle, unlaid};
+ghost use Rattle.dd_store.specs.Serving.{IsReady, MayCall, Serves, HoldsThen, StaysUp, Faulted, GrowsLittle, unlaid};
 
 use super::Store;
 use crate::StoreFault;
@@ -50,6 +50,8 @@ impl<F: Fingerprint, L: Lists> Store<F, L> {
         ensures tells { R.tells → (c s : State) → Kept (F.printed self.old.print) self.old.store (R.world rig.old) c s → (dirty ≡ false → block.now ≡ content s.array address)
             → IfOk result (λ done. Tells (F.printed self.old.print) done (answer_for dirty (sizes_of self.old.store.journal.geo) s address block.now)) }
         ensures no_hit { IfOk result (λ done. done.kind ≢ Hit) }
+        ensures holds { R.tells → (s : State) → Holds (F.printed self.old.print) self.old.store (R.world rig.old) s → (dirty ≡ false → block.now ≡ content s.array address)
+            → HoldsThen (F.printed self.old.print) result s (reference (sizes_of self.old.store.journal.geo) s address block.now) self.new.store (R.world rig.new) }
         ensures unsaid { R.tells → Elapses (R.clock rig.old) (R.clock rig.new) (λ o. o.out ≡ (R.world rig.old).said) }
         ensures said { R.tells → (R.world rig.new).said ≡ (R.world rig.old).said }
         ensures rows { IfOk result (References address dirty self.old.store self.new.store) }
@@ -152,6 +154,9 @@ impl<F: Fingerprint, L: Lists> Store<F, L> {
             → Carries (F.printed self.old.print) self.old.store (R.world rig.old).flash.shown s (touch_by address block dirty (listing_in self.old.store)) bytes
             → kind_of its ≡ (answer_for dirty (sizes_of self.old.store.journal.geo) s address bytes).kind
             → IfOk result (λ done. Tells (F.printed self.old.print) done (answer_for dirty (sizes_of self.old.store.journal.geo) s address bytes)) }
+        ensures holds { R.tells → (s : State) → Holds (F.printed self.old.print) self.old.store (R.world rig.old) s → (bytes : List ℕ)
+            → Carries (F.printed self.old.print) self.old.store (R.world rig.old).flash.shown s (touch_by address block dirty (listing_in self.old.store)) bytes
+            → HoldsThen (F.printed self.old.print) result s (reference (sizes_of self.old.store.journal.geo) s address bytes) self.new.store (R.world rig.new) }
         ensures unsaid { R.tells → Elapses (R.clock rig.old) (R.clock rig.new) (λ o. o.out ≡ (R.world rig.old).said) }
         ensures said { R.tells → (R.world rig.new).said ≡ (R.world rig.old).said }
         ensures kind { IfOk result (λ done. done.kind ≡ kind_of its) }
@@ -197,6 +202,9 @@ impl<F: Fingerprint, L: Lists> Store<F, L> {
         ensures tells { R.tells → (c s : State) → Kept (F.printed self.old.print) self.old.store (R.world rig.old) c s → fp ≡ F.printed self.old.print block.now
             → is_zero_block block.now ≡ false → is_known block.now s.blocks ≡ false → (dirty ≡ false → block.now ≡ content s.array address)
             → IfOk result (λ done. Tells (F.printed self.old.print) done (answer_for dirty (sizes_of self.old.store.journal.geo) s address block.now)) }
+        ensures holds { R.tells → (s : State) → Holds (F.printed self.old.print) self.old.store (R.world rig.old) s → fp ≡ F.printed self.old.print block.now
+            → is_zero_block block.now ≡ false → is_known block.now s.blocks ≡ false → (dirty ≡ false → block.now ≡ content s.array address)
+            → HoldsThen (F.printed self.old.print) result s (reference (sizes_of self.old.store.journal.geo) s address block.now) self.new.store (R.world rig.new) }
         ensures unsaid { R.tells → Elapses (R.clock rig.old) (R.clock rig.new) (λ o. o.out ≡ (R.world rig.old).said) }
         ensures said { R.tells → (R.world rig.new).said ≡ (R.world rig.old).said }
         ensures kind { IfOk result (λ done. done.kind ≡ (if dirty then New else Miss)) }
@@ -232,9 +240,12 @@ impl<F: Fingerprint, L: Lists> Store<F, L> {
         requires { MayCall self.old.store (R.device_size rig.old) }
         ensures serves { R.tells → (c s : State) → Kept (F.printed self.old.print) self.old.store (R.world rig.old) c s
             → Serves (F.printed self.old.print) result (R.clock rig.old) (R.clock rig.new) self.new.store (R.world rig.new) c s s }
+        ensures holds { R.tells → (s : State) → Holds (F.printed self.old.print) self.old.store (R.world rig.old) s
+            → HoldsThen (F.printed self.old.print) result s s self.new.store (R.world rig.new) }
         ensures unsaid { R.tells → Elapses (R.clock rig.old) (R.clock rig.new) (λ o. o.out ≡ (R.world rig.old).said) }
         ensures said { R.tells → (R.world rig.new).said ≡ (R.world rig.old).said }
         ensures ready { OnOk result (IsPrepared address want self.new.store) }
+        ensures own { OnOk result (is_dirty_at address self.new.store.table.a ≡ is_dirty_at address self.old.store.table.a) }
         ensures rows { OnOk result (Cleans self.old.store self.new.store) }
         ensures failed { IfErr result (λ fault. IsReadFault fault → Cleans self.old.store self.new.store) }
         ensures at_once { IsPrepared address want self.old.store → IsOk result × (rig.new ≡ rig.old) × (self.new.store ≡ unlaid self.old.store) }

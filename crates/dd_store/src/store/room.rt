@@ -32,6 +32,7 @@ impl<F: Fingerprint, L: Lists> Store<F, L> {
         ensures unsaid { R.tells → Elapses (R.clock rig.old) (R.clock rig.new) (λ o. o.out ≡ (R.world rig.old).said) }
         ensures said { R.tells → (R.world rig.new).said ≡ (R.world rig.old).said }
         ensures room { OnOk result (HasRoom address want self.new.store) }
+        ensures own { OnOk result (is_dirty_at address self.new.store.table.a ≡ is_dirty_at address self.old.store.table.a) }
         ensures rows { OnOk result (Cleans self.old.store self.new.store) }
         ensures failed { IfErr result (λ fault. fault ≡ FlashRead → Cleans self.old.store self.new.store) }
         ensures idle { HasRoom address want self.old.store → (result ≡ Ok tt) × (rig.new ≡ rig.old) × (self.new.store ≡ unlaid self.old.store) }

@@ -5,7 +5,7 @@ ghost use Rattle.dd_rig.specs.Counts.{Frame};
 ghost use Rattle.dd_model.specs.State.{State};
 ghost use Rattle.dd_store.specs.declared.fault.StoreFault.TheVariants.{FlashRead, DiskRead};
 ghost use Rattle.dd_store.specs.Keeping.{Holds, Kept};
-ghost use Rattle.dd_store.specs.Rounds.{Cleans, LoadsAtMost, LaysSome, has_along};
+ghost use Rattle.dd_store.specs.Rounds.{Cleans, LoadsAtMost, LaysSome, PassesOver, KeepsSkipped, has_along};
 ghost use Rattle.dd_store.specs.Serving.{unlaid, IsReady, Serves, HoldsThen, StaysUp, Faulted};
 
 use super::Store;
@@ -30,6 +30,7 @@ impl<F: Fingerprint, L: Lists> Store<F, L> {
         ensures none { OnOk result (has_along along self.new.store ≡ false) }
         ensures idle { has_along along self.old.store ≡ false → (result ≡ Ok tt) × (rig.new ≡ rig.old) × (self.new.store ≡ unlaid self.old.store) }
         ensures rows { OnOk result (Cleans self.old.store self.new.store) }
+        ensures skips { OnOk result (KeepsSkipped along self.old.store self.new.store) }
         ensures failed { IfErr result (λ fault. fault ≡ FlashRead → Cleans self.old.store self.new.store) }
         ensures fault { IfErr result (λ fault. fault ≢ DiskRead) }
         ensures up { StaysUp result self.new.store }
@@ -64,6 +65,7 @@ impl<F: Fingerprint, L: Lists> Store<F, L> {
         ensures said { R.tells → (R.world rig.new).said ≡ (R.world rig.old).said }
         ensures none { OnOk result (has_along along self.new.store ≡ false) }
         ensures rows { OnOk result (Cleans self.old.store self.new.store) }
+        ensures skips { OnOk result (KeepsSkipped along self.old.store self.new.store) }
         ensures failed { IfErr result (λ fault. fault ≡ FlashRead → Cleans self.old.store self.new.store) }
         ensures fault { IfErr result (λ fault. fault ≢ DiskRead) }
         ensures up { StaysUp result self.new.store }
@@ -99,6 +101,7 @@ impl<F: Fingerprint, L: Lists> Store<F, L> {
         ensures unsaid { R.tells → Elapses (R.clock rig.old) (R.clock rig.new) (λ o. o.out ≡ (R.world rig.old).said) }
         ensures said { R.tells → (R.world rig.new).said ≡ (R.world rig.old).said }
         ensures rows { OnOk result (Cleans self.old.store self.new.store) }
+        ensures skips { OnOk result (KeepsSkipped along self.old.store self.new.store) }
         ensures failed { IfErr result (λ fault. fault ≡ FlashRead → Cleans self.old.store self.new.store) }
         ensures fault { IfErr result (λ fault. fault ≢ DiskRead) }
         ensures up { StaysUp result self.new.store }
@@ -142,6 +145,7 @@ impl<F: Fingerprint, L: Lists> Store<F, L> {
         ensures said { R.tells → (R.world rig.new).said ≡ (R.world rig.old).said }
         ensures store { LaysSome result self.old.store self.new.store }
         ensures some { OnOk result (0 < length self.new.store.laid) }
+        ensures skips { OnOk result (PassesOver along self.new.store.laid) }
         ensures print { self.new.print ≡ self.old.print }
         ensures reads { (R.counts rig.new).disk.reads ≤ (R.counts rig.old).disk.reads }
         ensures writes { OnOk result ((R.counts rig.new).disk.writes ≤ (R.counts rig.old).disk.writes + length self.new.store.laid) }

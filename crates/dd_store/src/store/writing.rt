@@ -9,10 +9,10 @@ ghost use Rattle.dd_model.specs.Reference.{reference, write_answer, Tells};
 ghost use Rattle.dd_model.specs.State.{State};
 ghost use Rattle.dd_store.specs.declared.fault.StoreFault.TheVariants.{DiskRead};
 ghost use Rattle.dd_store.specs.Meaning.{sizes_of};
-ghost use Rattle.dd_store.specs.Keeping.{Kept};
+ghost use Rattle.dd_store.specs.Keeping.{Holds, Kept};
 ghost use Rattle.dd_store.specs.Rounds.{Cleans, HasRoom, LoadsAtMost};
 ghost use Rattle.dd_store.specs.Bringing.{IsPrepared, References, IsCalm, want_for, saves, IsReadFault};
-ghost use Rattle.dd_store.specs.Serving.{MayCall, Serves, StaysUp, Faulted, GrowsLittle};
+ghost use Rattle.dd_store.specs.Serving.{MayCall, Serves, HoldsThen, StaysUp, Faulted, GrowsLittle};
 
 use super::Store;
 use crate::StoreFault;
@@ -42,6 +42,8 @@ impl<F: Fingerprint, L: Lists> Store<F, L> {
             (reference (sizes_of self.old.store.journal.geo) s address block.now) }
         ensures answer { R.tells → (c s : State) → Kept (F.printed self.old.print) self.old.store (R.world rig.old) c s
             → IfOk result (λ done. Tells (F.printed self.old.print) done (write_answer (sizes_of self.old.store.journal.geo) s address block.now)) }
+        ensures holds { R.tells → (s : State) → Holds (F.printed self.old.print) self.old.store (R.world rig.old) s
+            → HoldsThen (F.printed self.old.print) result s (reference (sizes_of self.old.store.journal.geo) s address block.now) self.new.store (R.world rig.new) }
         ensures aligned { R.tells → (c s : State) → Kept (F.printed self.old.print) self.old.store (R.world rig.old) c s → is_rewrite s address block.now ≡ false → Aligned self.old.store.journal.geo.bcap s
             → OnOk result (Aligned self.old.store.journal.geo.bcap (reference (sizes_of self.old.store.journal.geo) s address block.now)) }
         ensures unsaid { R.tells → Elapses (R.clock rig.old) (R.clock rig.new) (λ o. o.out ≡ (R.world rig.old).said) }

@@ -1,3 +1,4 @@
+use Rattle.dd_store.proofs.Holding.{holds_behind, holds_read_failed}
 use Rattle.std.proofs.Common.{◌≡◌, ◌<◌, inl, length, false, sym, ◌∙◌, ap, subst, if◌then◌else◌}
 use Rattle.std.specs.Prelude.{◌||◌, IfOk, IfSome}
 use Rattle.dd_block.specs.Geometry.{slot_count}
@@ -12,10 +13,10 @@ use Rattle.dd_model.specs.Confirming.{candidates}
 use Rattle.dd_model.specs.Reference.{reference, Tells}
 use Rattle.dd_model.specs.State.{is_zero_block, is_known}
 use Rattle.dd_store.specs.Bringing.{FoundAs, answer_for}
-use Rattle.dd_store.specs.Keeping.{StoreView, IsStore, Kept}
+use Rattle.dd_store.specs.Keeping.{StoreView, IsStore, Kept, Holds}
 use Rattle.dd_store.specs.Meaning.{sizes_of}
 use Rattle.dd_store.specs.Referring.{listing_in}
-use Rattle.dd_store.specs.Serving.{StoreOf, Serves, store_of}
+use Rattle.dd_store.specs.Serving.{StoreOf, Serves, store_of, HoldsThen}
 use Rattle.dd_store.proofs.Answered.{kind_at_hand}
 use Rattle.dd_store.proofs.Brought.{kept_behind, serves_behind, serves_failed}
 use Rattle.dd_store.proofs.Costs.{references_behind, little_fresh, little_known, disk_fresh, given_below}
@@ -168,3 +169,49 @@ returns-in-None-clause-no_hit g c = fresh_no_hit c.args.dirty c.enter.result c.e
 
 pub returns-in-Some-clause-no_hit : goal.returns-in-Some-clause-no_hit
 returns-in-Some-clause-no_hit g c = known_no_hit c.args.dirty c.join-in-Some.result c.join-in-Some.ensures.kind
+
+pub returns-then-is_zero-clause-holds : goal.returns-then-is_zero-clause-holds
+returns-then-is_zero-clause-holds g c = λ told s holds read.
+    c.join.ensures.holds told s holds c.args.block.now
+    (carries_zeros (g.F.Fingerprint.printed c.args.self.now.print) c.args.self.now.store (g.R.Rig.world c.args.rig.now) s holds c.args.address c.requires.below c.args.block.now c.args.dirty c.requires.long read (sym c.is_zero.ensures ∙ c.if-is_zero.true))
+
+pub returns-in-Err-clause-holds : goal.returns-in-Err-clause-holds
+returns-in-Err-clause-holds g c = λ told s holds read.
+    let print = g.F.Fingerprint.printed c.args.self.now.print in
+    holds_read_failed Done print c.in-Err.fault c.in-Err.ensures.fault s _ c.find_block.new.self.store (g.R.Rig.world c.find_block.new.rig)
+    (holds_behind print c.args.self.now.store c.find_block.new.self.store (g.R.Rig.world c.args.rig.now) (g.R.Rig.world c.find_block.new.rig) s c.find_block.ensures.store (c.find_block.ensures.world told) holds)
+
+pub returns-in-None-clause-holds : goal.returns-in-None-clause-holds
+returns-in-None-clause-holds g c = λ told s holds read.
+    let print = g.F.Fingerprint.printed c.args.self.now.print in
+    let before = g.R.Rig.world c.args.rig.now in
+    let middle = g.R.Rig.world c.find_block.new.rig in
+    let held : Holds print c.find_block.new.self.store middle s = holds_behind print c.args.self.now.store c.find_block.new.self.store before middle s c.find_block.ensures.store (c.find_block.ensures.world told) holds in
+    let held_too = subst (λ f. Holds (g.F.Fingerprint.printed f) c.find_block.new.self.store middle s) (sym c.find_block.ensures.print) held in
+    let fp_is : c.print-fp.result ≡ g.F.Fingerprint.printed c.args.self.now.print c.args.block.now = c.print-fp.ensures ∙ ap (λ (v : StoreOf g.row.F.Denot). g.F.Fingerprint.printed v.print c.args.block.now) c.self.view_is in
+    let printed : c.print-fp.result ≡ g.F.Fingerprint.printed c.find_block.new.self.print c.args.block.now = fp_is ∙ ap (λ f. g.F.Fingerprint.printed f c.args.block.now) (sym c.find_block.ensures.print) in
+    let some : is_zero_block c.args.block.now ≡ false = sym c.is_zero.ensures ∙ c.if-is_zero.false in
+    let found = subst (FoundAs c.args.self.now.store.journal.geo before.flash.shown s c.args.block.now) c.in-None.is (c.in-Ok.ensures.found told print s holds fp_is) in
+    subst (λ (v : StoreView). HoldsThen print c.enter.result s (reference (sizes_of v.journal.geo) s c.args.address c.args.block.now) c.enter.new.self.store (g.R.Rig.world c.enter.new.rig)) c.find_block.ensures.store
+    (subst (λ f. HoldsThen (g.F.Fingerprint.printed f) c.enter.result s (reference (sizes_of c.find_block.new.self.store.journal.geo) s c.args.address c.args.block.now) c.enter.new.self.store (g.R.Rig.world c.enter.new.rig)) c.find_block.ensures.print
+    (c.enter.ensures.holds told s held_too printed some found read))
+
+pub returns-in-Some-clause-holds : goal.returns-in-Some-clause-holds
+returns-in-Some-clause-holds g c = λ told s holds read.
+    let print = g.F.Fingerprint.printed c.args.self.now.print in
+    let before = g.R.Rig.world c.args.rig.now in
+    let middle = g.R.Rig.world c.find_block.new.rig in
+    let held : Holds print c.find_block.new.self.store middle s = holds_behind print c.args.self.now.store c.find_block.new.self.store before middle s c.find_block.ensures.store (c.find_block.ensures.world told) holds in
+    let held_too = subst (λ f. Holds (g.F.Fingerprint.printed f) c.find_block.new.self.store middle s) (sym c.find_block.ensures.print) held in
+    let fp_is : c.print-fp.result ≡ g.F.Fingerprint.printed c.args.self.now.print c.args.block.now = c.print-fp.ensures ∙ ap (λ (v : StoreOf g.row.F.Denot). g.F.Fingerprint.printed v.print c.args.block.now) c.self.view_is in
+    let printed : c.print-fp.result ≡ g.F.Fingerprint.printed c.find_block.new.self.print c.args.block.now = fp_is ∙ ap (λ f. g.F.Fingerprint.printed f c.args.block.now) (sym c.find_block.ensures.print) in
+    let some : is_zero_block c.args.block.now ≡ false = sym c.is_zero.ensures ∙ c.if-is_zero.false in
+    let found = subst (FoundAs c.args.self.now.store.journal.geo before.flash.shown s c.args.block.now) c.in-Some.is (c.in-Ok.ensures.found told print s holds fp_is) in
+    let slot_holds = subst (λ (v : StoreView). slot_block v.journal.geo middle.flash.shown c.in-Some.slot ≡ c.args.block.now) (sym c.find_block.ensures.store) (ap (λ (w : World). slot_block c.args.self.now.store.journal.geo w.flash.shown c.in-Some.slot) (c.find_block.ensures.world told) ∙ found.1) in
+    let below = subst (λ (v : StoreView). c.args.address < v.journal.geo.blocks) (sym c.find_block.ensures.store) c.requires.below in
+    let long = subst (λ (v : StoreView). length c.args.block.now ≡ v.journal.geo.block) (sym c.find_block.ensures.store) c.requires.long in
+    let is_given = subst (λ (v : StoreView). IsGiven (listing_in v) (Known c.in-Some.slot)) (sym c.find_block.ensures.store) (subst (λ o. IfSome o (λ slot. IsGiven (listing_in c.args.self.now.store) (Known slot))) c.in-Some.is c.in-Ok.ensures.listed) in
+    let carries = carries_listed (g.F.Fingerprint.printed c.find_block.new.self.print) c.find_block.new.self.store middle s held_too c.args.address below c.args.block.now c.args.dirty long read c.in-Some.slot is_given slot_holds in
+    subst (λ (v : StoreView). HoldsThen print c.join-in-Some.result s (reference (sizes_of v.journal.geo) s c.args.address c.args.block.now) c.join-in-Some.new.self.store (g.R.Rig.world c.join-in-Some.new.rig)) c.find_block.ensures.store
+    (subst (λ f. HoldsThen (g.F.Fingerprint.printed f) c.join-in-Some.result s (reference (sizes_of c.find_block.new.self.store.journal.geo) s c.args.address c.args.block.now) c.join-in-Some.new.self.store (g.R.Rig.world c.join-in-Some.new.rig)) c.find_block.ensures.print
+    (c.join-in-Some.ensures.holds told s held_too c.args.block.now carries))

@@ -1,6 +1,7 @@
 use Rattle.std.proofs.Common.{ap}
 use Rattle.std.specs.Prelude.{Ok, Err}
 use Rattle.dd_store.proofs.Holding.{holds_next, holds_write_failed}
+use Rattle.dd_store.proofs.Keeping.{round_skips}
 use Rattle.dd_store.proofs.Serves.{serves_next, serves_down}
 use Rattle.dd_store.proofs.store.Store.round.Goals as goal
 
@@ -54,3 +55,8 @@ returns-in-Ok-mark-clause-holds g c = λ told s holds.
 
 pub returns-in-Err-mark-clause-holds : goal.returns-in-Err-mark-clause-holds
 returns-in-Err-mark-clause-holds g c = λ told s holds. holds_write_failed (Unit {0}) _ c.in-Err-mark.fault c.in-Err-mark.ensures.fault s s _ _
+
+pub returns-in-Ok-mark-clause-skips : goal.returns-in-Ok-mark-clause-skips
+returns-in-Ok-mark-clause-skips g c =
+    round_skips c.args.along c.args.self.now.store c.commit.new.self.store c.lay_some.new.self.store c.mark.new.self.store c.commit.new.self.store.journal
+    c.in-Ok.ensures.store c.in-Ok-lay_some.ensures.store c.in-Ok-mark.ensures.ok c.in-Ok-lay_some.ensures.skips

@@ -5,6 +5,7 @@ use Rattle.dd_rig.proofs.Moments.{starts, goes_on}
 use Rattle.dd_store.specs.Keeping.{StoreView}
 use Rattle.dd_store.proofs.Cleaning.{cleans_then, forget_cleans}
 use Rattle.dd_store.proofs.Holding.{holds_next, holds_forgotten}
+use Rattle.dd_store.proofs.Keeping.{skips_unlaid, skips_then}
 use Rattle.dd_store.proofs.Serves.{serves_next, unlaid_serves}
 use Rattle.dd_store.proofs.store.Store.some_rounds.Goals as goal
 
@@ -19,6 +20,7 @@ rounds-init g c =
       unsaid = λ told. starts (g.R.Rig.clock c.args.rig.now) _;
       said = λ told. refl;
       rows = forget_cleans old now same;
+      skips = skips_unlaid c.args.along old now same;
       up = ap (λ (v : StoreView). v.is_up) same ∙ c.requires.call.up;
       print = c.forget.ensures.print;
       forgets = ap (λ (v : StoreView). v.laid) same;
@@ -56,6 +58,7 @@ rounds-preserved g c =
       unsaid = λ told. goes_on (i.unsaid told) (c.round.ensures.unsaid told) (λ o out. out ∙ i.said told);
       said = λ told. c.round.ensures.said told ∙ i.said told;
       rows = cleans_then c.args.self.now.store c.rounds.self.store c.round.new.self.store i.rows c.in-Ok.ensures.rows;
+      skips = skips_then c.args.along c.args.self.now.store c.rounds.self.store c.round.new.self.store i.skips c.in-Ok.ensures.skips;
       up = c.in-Ok.ensures.up;
       print = c.round.ensures.print ∙ i.print;
       forgets = c.round.ensures.forgets;

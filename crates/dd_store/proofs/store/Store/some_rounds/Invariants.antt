@@ -4,7 +4,7 @@ use Rattle.dd_rig.specs.Clock.{Elapses}
 use Rattle.dd_rig.specs.Counts.{Frame}
 use Rattle.dd_model.specs.State.{State}
 use Rattle.dd_store.specs.Keeping.{Holds, Kept}
-use Rattle.dd_store.specs.Rounds.{Cleans, LoadsAtMost}
+use Rattle.dd_store.specs.Rounds.{Cleans, KeepsSkipped, LoadsAtMost}
 use Rattle.dd_store.specs.Serving.{Serves}
 use Rattle.dd_store.proofs.store.Store.some_rounds.Given as goal
 
@@ -22,6 +22,7 @@ invariant-rounds g l =
       unsaid : g.R.Rig.tells → Elapses (clock l.fn.rig) (clock l.rig) (λ o. o.out ≡ (world l.fn.rig).said);
       said : g.R.Rig.tells → (world l.rig).said ≡ (world l.fn.rig).said;
       rows : Cleans l.fn.self.store l.self.store;
+      skips : KeepsSkipped l.along l.fn.self.store l.self.store;
       up : IsTrue l.self.store.is_up;
       print : l.self.print ≡ l.fn.self.print;
       forgets : l.self.store.laid ≡ [];

@@ -17,3 +17,6 @@ returns-clause-aligned g c = λ told was s kept none aligned.
 pub returns-clause-calm : goal.returns-clause-calm
 returns-clause-calm g c =
     calm_by c.args.address true c.args.self.now.store c.bring-done.new.self.store (CalledAtMost nothing (g.R.Rig.counts c.args.rig.now).disk (g.R.Rig.counts c.bring-done.new.rig).disk) c.bring-done.result c.bring-done.ensures.rows c.bring-done.ensures.disk
+
+pub returns-clause-holds : goal.returns-clause-holds
+returns-clause-holds g c = λ told s holds. c.bring-done.ensures.holds told s holds (λ never. absurd (cc never))
