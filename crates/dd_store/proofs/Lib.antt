@@ -39,6 +39,7 @@ pub mod Sole
 pub mod Sure
 pub mod Telling
 pub mod Ticking
+pub mod Untouched
 pub mod UsedSlots
 pub mod Uses
 pub mod Using

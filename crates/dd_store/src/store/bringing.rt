@@ -8,7 +8,7 @@ ghost use Rattle.dd_record.specs.declared.row.Link.TheVariants.{Lost};
 ghost use Rattle.dd_record.specs.Spelling.{IsRec};
 ghost use Rattle.dd_record.specs.Table.{is_dirty_at, link_at};
 ghost use Rattle.dd_record.specs.Replay.{touch_of, raises};
-ghost use Rattle.dd_model.specs.declared.kind.Kind.TheVariants.{Hit, Miss, New};
+ghost use Rattle.dd_model.specs.declared.kind.Kind.TheVariants.{Hit, Miss, New, Dup};
 ghost use Rattle.dd_model.specs.declared.given.Want.TheVariants.{Fresh as FreshBlock};
 ghost use Rattle.dd_model.specs.declared.given.Block.TheVariants.{Known as KnownBlock};
 ghost use Rattle.dd_model.specs.Confirming.{candidates};
@@ -17,7 +17,7 @@ ghost use Rattle.dd_model.specs.Reference.{reference, Tells};
 ghost use Rattle.dd_model.specs.State.{State, content, is_zero_block, is_known};
 ghost use Rattle.dd_store.specs.declared.fault.StoreFault.TheVariants.{FlashRead, DiskRead, FlashWrite};
 ghost use Rattle.dd_store.specs.Meaning.{sizes_of};
-ghost use Rattle.dd_store.specs.Keeping.{IsStore, Holds, Kept};
+ghost use Rattle.dd_store.specs.Keeping.{IsStore, Holds, Kept, slots_shown};
 ghost use Rattle.dd_store.specs.Referring.{listing_in, is_fresh_block, kind_of};
 ghost use Rattle.dd_store.specs.Rounds.{Cleans, HasRoom, LoadsAtMost};
 ghost use Rattle.dd_store.specs.Bringing.{IsPrepared, must_commit, Carries, References, FoundAs, answer_for, want_for, saves, IsReadFault};
@@ -53,6 +53,7 @@ impl<F: Fingerprint, L: Lists> Store<F, L> {
         ensures holds { R.tells → (s : State) → Holds (F.printed self.old.print) self.old.store (R.world rig.old) s → (dirty ≡ false → block.now ≡ content s.array address)
             → HoldsThen (F.printed self.old.print) result s (reference (sizes_of self.old.store.journal.geo) s address block.now) self.new.store (R.world rig.new) }
         ensures unsaid { R.tells → Elapses (R.clock rig.old) (R.clock rig.new) (λ o. o.out ≡ (R.world rig.old).said) }
+        ensures dup_slots { R.tells → IfOk result (λ done. done.kind ≡ Dup → slots_shown self.old.store.journal.geo (R.world rig.new) ≡ slots_shown self.old.store.journal.geo (R.world rig.old)) }
         ensures said { R.tells → (R.world rig.new).said ≡ (R.world rig.old).said }
         ensures rows { IfOk result (References address dirty self.old.store self.new.store) }
         ensures failed { IfErr result (λ fault. IsReadFault fault → Cleans self.old.store self.new.store) }
@@ -158,6 +159,7 @@ impl<F: Fingerprint, L: Lists> Store<F, L> {
             → Carries (F.printed self.old.print) self.old.store (R.world rig.old).flash.shown s (touch_by address block dirty (listing_in self.old.store)) bytes
             → HoldsThen (F.printed self.old.print) result s (reference (sizes_of self.old.store.journal.geo) s address bytes) self.new.store (R.world rig.new) }
         ensures unsaid { R.tells → Elapses (R.clock rig.old) (R.clock rig.new) (λ o. o.out ≡ (R.world rig.old).said) }
+        ensures slots { R.tells → slots_shown self.old.store.journal.geo (R.world rig.new) ≡ slots_shown self.old.store.journal.geo (R.world rig.old) }
         ensures said { R.tells → (R.world rig.new).said ≡ (R.world rig.old).said }
         ensures kind { IfOk result (λ done. done.kind ≡ kind_of its) }
         ensures rows { IfOk result (References address dirty self.old.store self.new.store) }
@@ -243,6 +245,7 @@ impl<F: Fingerprint, L: Lists> Store<F, L> {
         ensures holds { R.tells → (s : State) → Holds (F.printed self.old.print) self.old.store (R.world rig.old) s
             → HoldsThen (F.printed self.old.print) result s s self.new.store (R.world rig.new) }
         ensures unsaid { R.tells → Elapses (R.clock rig.old) (R.clock rig.new) (λ o. o.out ≡ (R.world rig.old).said) }
+        ensures slots { R.tells → slots_shown self.old.store.journal.geo (R.world rig.new) ≡ slots_shown self.old.store.journal.geo (R.world rig.old) }
         ensures said { R.tells → (R.world rig.new).said ≡ (R.world rig.old).said }
         ensures ready { OnOk result (IsPrepared address want self.new.store) }
         ensures own { OnOk result (is_dirty_at address self.new.store.table.a ≡ is_dirty_at address self.old.store.table.a) }

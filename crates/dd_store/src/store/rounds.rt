@@ -4,7 +4,7 @@ ghost use Rattle.dd_rig.specs.Clock.{Elapses};
 ghost use Rattle.dd_rig.specs.Counts.{Frame};
 ghost use Rattle.dd_model.specs.State.{State};
 ghost use Rattle.dd_store.specs.declared.fault.StoreFault.TheVariants.{FlashRead, DiskRead};
-ghost use Rattle.dd_store.specs.Keeping.{Holds, Kept};
+ghost use Rattle.dd_store.specs.Keeping.{Holds, Kept, slots_shown};
 ghost use Rattle.dd_store.specs.Rounds.{Cleans, LoadsAtMost, LaysSome, PassesOver, KeepsSkipped, has_along};
 ghost use Rattle.dd_store.specs.Serving.{unlaid, IsReady, Serves, HoldsThen, StaysUp, Faulted};
 
@@ -26,6 +26,7 @@ impl<F: Fingerprint, L: Lists> Store<F, L> {
         ensures holds { R.tells → (s : State) → Holds (F.printed self.old.print) self.old.store (R.world rig.old) s
             → HoldsThen (F.printed self.old.print) result s s self.new.store (R.world rig.new) }
         ensures unsaid { R.tells → Elapses (R.clock rig.old) (R.clock rig.new) (λ o. o.out ≡ (R.world rig.old).said) }
+        ensures slots { R.tells → slots_shown self.old.store.journal.geo (R.world rig.new) ≡ slots_shown self.old.store.journal.geo (R.world rig.old) }
         ensures said { R.tells → (R.world rig.new).said ≡ (R.world rig.old).said }
         ensures none { OnOk result (has_along along self.new.store ≡ false) }
         ensures idle { has_along along self.old.store ≡ false → (result ≡ Ok tt) × (rig.new ≡ rig.old) × (self.new.store ≡ unlaid self.old.store) }
@@ -62,6 +63,7 @@ impl<F: Fingerprint, L: Lists> Store<F, L> {
         ensures holds { R.tells → (s : State) → Holds (F.printed self.old.print) self.old.store (R.world rig.old) s
             → HoldsThen (F.printed self.old.print) result s s self.new.store (R.world rig.new) }
         ensures unsaid { R.tells → Elapses (R.clock rig.old) (R.clock rig.new) (λ o. o.out ≡ (R.world rig.old).said) }
+        ensures slots { R.tells → slots_shown self.old.store.journal.geo (R.world rig.new) ≡ slots_shown self.old.store.journal.geo (R.world rig.old) }
         ensures said { R.tells → (R.world rig.new).said ≡ (R.world rig.old).said }
         ensures none { OnOk result (has_along along self.new.store ≡ false) }
         ensures rows { OnOk result (Cleans self.old.store self.new.store) }
@@ -99,6 +101,7 @@ impl<F: Fingerprint, L: Lists> Store<F, L> {
         ensures holds { R.tells → (s : State) → Holds (F.printed self.old.print) self.old.store (R.world rig.old) s
             → HoldsThen (F.printed self.old.print) result s s self.new.store (R.world rig.new) }
         ensures unsaid { R.tells → Elapses (R.clock rig.old) (R.clock rig.new) (λ o. o.out ≡ (R.world rig.old).said) }
+        ensures slots { R.tells → slots_shown self.old.store.journal.geo (R.world rig.new) ≡ slots_shown self.old.store.journal.geo (R.world rig.old) }
         ensures said { R.tells → (R.world rig.new).said ≡ (R.world rig.old).said }
         ensures rows { OnOk result (Cleans self.old.store self.new.store) }
         ensures skips { OnOk result (KeepsSkipped along self.old.store self.new.store) }
@@ -142,6 +145,7 @@ impl<F: Fingerprint, L: Lists> Store<F, L> {
         ensures holds { R.tells → (s : State) → Holds (F.printed self.old.print) self.old.store (R.world rig.old) s
             → HoldsThen (F.printed self.old.print) result s s self.new.store (R.world rig.new) }
         ensures unsaid { R.tells → Elapses (R.clock rig.old) (R.clock rig.new) (λ o. o.out ≡ (R.world rig.old).said) }
+        ensures flash { R.tells → (R.world rig.new).flash ≡ (R.world rig.old).flash }
         ensures said { R.tells → (R.world rig.new).said ≡ (R.world rig.old).said }
         ensures store { LaysSome result self.old.store self.new.store }
         ensures some { OnOk result (0 < length self.new.store.laid) }

@@ -1,3 +1,4 @@
+use Rattle.dd_store.proofs.Untouched.{for_dup, fresh_dup}
 use Rattle.dd_store.proofs.Holding.{holds_behind, holds_read_failed}
 use Rattle.std.proofs.Common.{◌≡◌, ◌<◌, inl, length, false, sym, ◌∙◌, ap, subst, if◌then◌else◌}
 use Rattle.std.specs.Prelude.{◌||◌, IfOk, IfSome}
@@ -13,7 +14,7 @@ use Rattle.dd_model.specs.Confirming.{candidates}
 use Rattle.dd_model.specs.Reference.{reference, Tells}
 use Rattle.dd_model.specs.State.{is_zero_block, is_known}
 use Rattle.dd_store.specs.Bringing.{FoundAs, answer_for}
-use Rattle.dd_store.specs.Keeping.{StoreView, IsStore, Kept, Holds}
+use Rattle.dd_store.specs.Keeping.{StoreView, IsStore, Kept, Holds, slots_shown}
 use Rattle.dd_store.specs.Meaning.{sizes_of}
 use Rattle.dd_store.specs.Referring.{listing_in}
 use Rattle.dd_store.specs.Serving.{StoreOf, Serves, store_of, HoldsThen}
@@ -215,3 +216,14 @@ returns-in-Some-clause-holds g c = λ told s holds read.
     subst (λ (v : StoreView). HoldsThen print c.join-in-Some.result s (reference (sizes_of v.journal.geo) s c.args.address c.args.block.now) c.join-in-Some.new.self.store (g.R.Rig.world c.join-in-Some.new.rig)) c.find_block.ensures.store
     (subst (λ f. HoldsThen (g.F.Fingerprint.printed f) c.join-in-Some.result s (reference (sizes_of c.find_block.new.self.store.journal.geo) s c.args.address c.args.block.now) c.join-in-Some.new.self.store (g.R.Rig.world c.join-in-Some.new.rig)) c.find_block.ensures.print
     (c.join-in-Some.ensures.holds told s held_too c.args.block.now carries))
+
+pub returns-then-is_zero-clause-dup_slots : goal.returns-then-is_zero-clause-dup_slots
+returns-then-is_zero-clause-dup_slots g c = λ told. for_dup (slots_shown c.args.self.now.store.journal.geo (g.R.Rig.world c.join.new.rig) ≡ slots_shown c.args.self.now.store.journal.geo (g.R.Rig.world c.args.rig.now)) c.join.result (c.join.ensures.slots told)
+
+pub returns-in-None-clause-dup_slots : goal.returns-in-None-clause-dup_slots
+returns-in-None-clause-dup_slots g c = λ told. fresh_dup (slots_shown c.args.self.now.store.journal.geo (g.R.Rig.world c.enter.new.rig) ≡ slots_shown c.args.self.now.store.journal.geo (g.R.Rig.world c.args.rig.now)) c.args.dirty c.enter.result c.enter.ensures.kind
+
+pub returns-in-Some-clause-dup_slots : goal.returns-in-Some-clause-dup_slots
+returns-in-Some-clause-dup_slots g c = λ told. for_dup (slots_shown c.args.self.now.store.journal.geo (g.R.Rig.world c.join-in-Some.new.rig) ≡ slots_shown c.args.self.now.store.journal.geo (g.R.Rig.world c.args.rig.now)) c.join-in-Some.result
+    (subst (λ (v : StoreView). slots_shown v.journal.geo (g.R.Rig.world c.join-in-Some.new.rig) ≡ slots_shown v.journal.geo (g.R.Rig.world c.find_block.new.rig)) c.find_block.ensures.store (c.join-in-Some.ensures.slots told)
+    ∙ ap (λ (w : World). slots_shown c.args.self.now.store.journal.geo w) (c.find_block.ensures.world told))

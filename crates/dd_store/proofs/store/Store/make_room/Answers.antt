@@ -1,9 +1,10 @@
+use Rattle.dd_block.specs.declared.geometry.Geometry.{Geometry}
 use Rattle.std.proofs.Common.{◌≡◌, ℕ, None, false, length, refl, sym, ◌∙◌, ap, subst, arith}
 use Rattle.std.specs.Prelude.{Option, IfSome}
 use Rattle.dd_record.specs.Table.{is_dirty_at}
 use Rattle.std.specs.List.{list_any}
 use Rattle.dd_model.specs.Listing.{victims_of, refers}
-use Rattle.dd_store.specs.Keeping.{StoreView, IsStore}
+use Rattle.dd_store.specs.Keeping.{StoreView, IsStore, slots_shown}
 use Rattle.dd_store.specs.Referring.{listing_in}
 use Rattle.dd_store.specs.Serving.{StoreOf, store_of, unlaid}
 use Rattle.dd_store.proofs.Cleaning.{dirty_few, cleans_on, cleans_failed}
@@ -104,3 +105,7 @@ returns-in-Some-clause-own g c =
     let first : is_dirty_at c.args.address middle.table.a ≡ is_dirty_at c.args.address old.table.a = own_out c.args.address c.args.want old middle c.victims-victims.result are c.in-Ok.ensures.rows
     (λ none. (c.clean_out.ensures.idle (subst (λ (o : Option ℕ). IfSome o (λ at. is_dirty_at at old.table.a ≡ false)) (sym none) tt)).2) in
     own_on c.rounds.result c.args.address c.in-Some.row.slot old middle c.rounds.new.self.store first c.rounds.ensures.skips
+
+pub returns-in-Some-clause-slots : goal.returns-in-Some-clause-slots
+returns-in-Some-clause-slots g c = λ told.
+    subst (λ (geo : Geometry). slots_shown geo (g.R.Rig.world c.rounds.new.rig) ≡ slots_shown geo (g.R.Rig.world c.clean_out.new.rig)) c.clean_out.ensures.geometry (c.rounds.ensures.slots told) ∙ c.clean_out.ensures.slots told
