@@ -1,5 +1,5 @@
 -- An address that a walk passes over, and one for which room is made, is as dirty as it was.
-use Rattle.std.proofs.Common.{◌≡◌, ℕ, zero, suc, ◌==◌, not, Bool, true, false, cond, List, [], ◌∷◌, ◌++◌, take, refl, sym, ◌∙◌, ap, Some, None, arith}
+use Rattle.std.proofs.Common.{◌≡◌, ℕ, ◌==◌, not, Bool, true, false, cond, List, [], ◌∷◌, ◌++◌, take, refl, sym, ◌∙◌, ap, Some, None, arith}
 use Rattle.std.specs.Prelude.{Option, Result, Ok, Err, OnOk, ◌||◌, is_some, option_map, if◌then◌else◌}
 use Rattle.std.specs.List.{AllByRecursion}
 use Rattle.dd_slots.specs.Numbers.{is_among}

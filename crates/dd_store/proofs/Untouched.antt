@@ -1,5 +1,5 @@
 -- The slots of the flash read as they did, behind what writes the disk and the regions alone.
-use Rattle.std.proofs.Common.{◌≡◌, inr, ⊎_elim, ℕ, ◌*◌, Bool, true, false, length, Ok, Err, sym, ◌∙◌, ap, if◌then◌else◌}
+use Rattle.std.proofs.Common.{◌≡◌, inr, ⊎_elim, ◌*◌, Bool, true, false, length, Ok, Err, sym, ◌∙◌, ap, if◌then◌else◌}
 use Rattle.std.specs.Prelude.{Result, IfOk}
 use Rattle.dd_block.specs.Bytes.{part}
 use Rattle.dd_block.specs.Geometry.{slot_count}

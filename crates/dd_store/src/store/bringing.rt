@@ -20,7 +20,7 @@ ghost use Rattle.dd_store.specs.Meaning.{sizes_of};
 ghost use Rattle.dd_store.specs.Keeping.{IsStore, Holds, Kept, slots_shown};
 ghost use Rattle.dd_store.specs.Referring.{listing_in, is_fresh_block, kind_of};
 ghost use Rattle.dd_store.specs.Rounds.{Cleans, HasRoom, LoadsAtMost};
-ghost use Rattle.dd_store.specs.Bringing.{IsPrepared, must_commit, Carries, References, FoundAs, answer_for, want_for, saves, IsReadFault};
+ghost use Rattle.dd_store.specs.Bringing.{IsPrepared, must_commit, Carries, References, FoundAs, answer_for, want_for, saves, IsReadFault, want_by};
 ghost use Rattle.dd_store.specs.Serving.{IsReady, MayCall, Serves, HoldsThen, StaysUp, Faulted, GrowsLittle, unlaid};
 
 use super::Store;
@@ -47,7 +47,7 @@ impl<F: Fingerprint, L: Lists> Store<F, L> {
         requires anew { (dirty ≡ true) ⊎ (link_at address self.old.store.table.a ≡ Lost) }
         ensures serves { R.tells → (c s : State) → Kept (F.printed self.old.print) self.old.store (R.world rig.old) c s → (dirty ≡ false → block.now ≡ content s.array address)
             → Serves (F.printed self.old.print) result (R.clock rig.old) (R.clock rig.new) self.new.store (R.world rig.new) c s (reference (sizes_of self.old.store.journal.geo) s address block.now) }
-        ensures tells { R.tells → (c s : State) → Kept (F.printed self.old.print) self.old.store (R.world rig.old) c s → (dirty ≡ false → block.now ≡ content s.array address)
+        ensures tells { R.tells → (s : State) → Holds (F.printed self.old.print) self.old.store (R.world rig.old) s → (dirty ≡ false → block.now ≡ content s.array address)
             → IfOk result (λ done. Tells (F.printed self.old.print) done (answer_for dirty (sizes_of self.old.store.journal.geo) s address block.now)) }
         ensures no_hit { IfOk result (λ done. done.kind ≢ Hit) }
         ensures holds { R.tells → (s : State) → Holds (F.printed self.old.print) self.old.store (R.world rig.old) s → (dirty ≡ false → block.now ≡ content s.array address)
@@ -61,6 +61,8 @@ impl<F: Fingerprint, L: Lists> Store<F, L> {
             → Makes (up_to (candidates (F.printed self.old.print block.now) self.old.store.table.b) (saves done.kind) (saves done.kind * self.old.store.journal.geo.block)) nothing (R.counts rig.old) (R.counts rig.new)) }
         ensures disk { IfOk result (λ done. HasRoom address (want_for done.kind) self.old.store → CalledAtMost nothing (R.counts rig.old).disk (R.counts rig.new).disk) }
         ensures idle { HasRoom address FreshBlock self.old.store → CalledAtMost nothing (R.counts rig.old).disk (R.counts rig.new).disk }
+        ensures idle_held { R.tells → (s : State) → Holds (F.printed self.old.print) self.old.store (R.world rig.old) s → HasRoom address (want_by block.now s.blocks) self.old.store
+            → CalledAtMost nothing (R.counts rig.old).disk (R.counts rig.new).disk }
         ensures loads { OnOk result (LoadsAtMost (if dirty then 2 else 0) self.old.store self.new.store (R.counts rig.old).disk (R.counts rig.new).disk) }
         ensures reads { (R.counts rig.new).disk.reads ≤ (R.counts rig.old).disk.reads }
         ensures fault { IfErr result (λ fault. fault ≢ DiskRead) }
@@ -151,7 +153,7 @@ impl<F: Fingerprint, L: Lists> Store<F, L> {
         ensures serves { R.tells → (c s : State) → Kept (F.printed self.old.print) self.old.store (R.world rig.old) c s → (bytes : List ℕ)
             → Carries (F.printed self.old.print) self.old.store (R.world rig.old).flash.shown s (touch_by address block dirty (listing_in self.old.store)) bytes
             → Serves (F.printed self.old.print) result (R.clock rig.old) (R.clock rig.new) self.new.store (R.world rig.new) c s (reference (sizes_of self.old.store.journal.geo) s address bytes) }
-        ensures tells { R.tells → (c s : State) → Kept (F.printed self.old.print) self.old.store (R.world rig.old) c s → (bytes : List ℕ)
+        ensures tells { R.tells → (s : State) → Holds (F.printed self.old.print) self.old.store (R.world rig.old) s → (bytes : List ℕ)
             → Carries (F.printed self.old.print) self.old.store (R.world rig.old).flash.shown s (touch_by address block dirty (listing_in self.old.store)) bytes
             → kind_of its ≡ (answer_for dirty (sizes_of self.old.store.journal.geo) s address bytes).kind
             → IfOk result (λ done. Tells (F.printed self.old.print) done (answer_for dirty (sizes_of self.old.store.journal.geo) s address bytes)) }
@@ -201,7 +203,7 @@ impl<F: Fingerprint, L: Lists> Store<F, L> {
         ensures serves { R.tells → (c s : State) → Kept (F.printed self.old.print) self.old.store (R.world rig.old) c s → fp ≡ F.printed self.old.print block.now
             → is_zero_block block.now ≡ false → is_known block.now s.blocks ≡ false → (dirty ≡ false → block.now ≡ content s.array address)
             → Serves (F.printed self.old.print) result (R.clock rig.old) (R.clock rig.new) self.new.store (R.world rig.new) c s (reference (sizes_of self.old.store.journal.geo) s address block.now) }
-        ensures tells { R.tells → (c s : State) → Kept (F.printed self.old.print) self.old.store (R.world rig.old) c s → fp ≡ F.printed self.old.print block.now
+        ensures tells { R.tells → (s : State) → Holds (F.printed self.old.print) self.old.store (R.world rig.old) s → fp ≡ F.printed self.old.print block.now
             → is_zero_block block.now ≡ false → is_known block.now s.blocks ≡ false → (dirty ≡ false → block.now ≡ content s.array address)
             → IfOk result (λ done. Tells (F.printed self.old.print) done (answer_for dirty (sizes_of self.old.store.journal.geo) s address block.now)) }
         ensures holds { R.tells → (s : State) → Holds (F.printed self.old.print) self.old.store (R.world rig.old) s → fp ≡ F.printed self.old.print block.now

@@ -51,6 +51,8 @@ impl<F: Fingerprint, L: Lists> Store<F, L> {
             (reference (sizes_of self.old.store.journal.geo) s address (content s.array address)) }
         ensures answer { R.tells → (c s : State) → Kept (F.printed self.old.print) self.old.store (R.world rig.old) c s
             → IfOk result (λ done. (into.new ≡ content s.array address) × Tells (F.printed self.old.print) done (read_answer (sizes_of self.old.store.journal.geo) s address)) }
+        ensures tells { R.tells → (s : State) → Holds (F.printed self.old.print) self.old.store (R.world rig.old) s
+            → IfOk result (λ done. (into.new ≡ content s.array address) × Tells (F.printed self.old.print) done (read_answer (sizes_of self.old.store.journal.geo) s address)) }
         ensures holds { R.tells → (s : State) → Holds (F.printed self.old.print) self.old.store (R.world rig.old) s
             → HoldsThen (F.printed self.old.print) result s (reference (sizes_of self.old.store.journal.geo) s address (content s.array address)) self.new.store (R.world rig.new) }
         ensures aligned { R.tells → (c s : State) → Kept (F.printed self.old.print) self.old.store (R.world rig.old) c s → Aligned self.old.store.journal.geo.bcap s

@@ -79,7 +79,7 @@ impl<F: Fingerprint, L: Lists> Store<F, L> {
         ensures serves { R.tells → (c s : State) → Kept (F.printed self.old.print) self.old.store (R.world rig.old) c s → fp ≡ F.printed self.old.print block.now
             → is_zero_block block.now ≡ false → is_known block.now s.blocks ≡ false → (dirty ≡ false → block.now ≡ content s.array address)
             → Serves (F.printed self.old.print) result (R.clock rig.old) (R.clock rig.new) self.new.store (R.world rig.new) c s (reference (sizes_of self.old.store.journal.geo) s address block.now) }
-        ensures tells { R.tells → (c s : State) → Kept (F.printed self.old.print) self.old.store (R.world rig.old) c s → fp ≡ F.printed self.old.print block.now
+        ensures tells { R.tells → (s : State) → Holds (F.printed self.old.print) self.old.store (R.world rig.old) s → fp ≡ F.printed self.old.print block.now
             → is_zero_block block.now ≡ false → is_known block.now s.blocks ≡ false → (dirty ≡ false → block.now ≡ content s.array address)
             → IfOk result (λ cut. Tells (F.printed self.old.print) (record { kind = if dirty then New else Miss; cut = cut }) (answer_for dirty (sizes_of self.old.store.journal.geo) s address block.now)) }
         ensures holds { R.tells → (s : State) → Holds (F.printed self.old.print) self.old.store (R.world rig.old) s → fp ≡ F.printed self.old.print block.now

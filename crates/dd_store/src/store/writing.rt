@@ -12,7 +12,7 @@ ghost use Rattle.dd_store.specs.declared.fault.StoreFault.TheVariants.{DiskRead}
 ghost use Rattle.dd_store.specs.Meaning.{sizes_of};
 ghost use Rattle.dd_store.specs.Keeping.{Holds, Kept, slots_shown};
 ghost use Rattle.dd_store.specs.Rounds.{Cleans, HasRoom, LoadsAtMost};
-ghost use Rattle.dd_store.specs.Bringing.{IsPrepared, References, IsCalm, want_for, saves, IsReadFault};
+ghost use Rattle.dd_store.specs.Bringing.{IsPrepared, References, IsCalm, want_for, saves, IsReadFault, want_by};
 ghost use Rattle.dd_store.specs.Serving.{MayCall, Serves, HoldsThen, StaysUp, Faulted, GrowsLittle};
 
 use super::Store;
@@ -43,6 +43,8 @@ impl<F: Fingerprint, L: Lists> Store<F, L> {
             (reference (sizes_of self.old.store.journal.geo) s address block.now) }
         ensures answer { R.tells → (c s : State) → Kept (F.printed self.old.print) self.old.store (R.world rig.old) c s
             → IfOk result (λ done. Tells (F.printed self.old.print) done (write_answer (sizes_of self.old.store.journal.geo) s address block.now)) }
+        ensures tells { R.tells → (s : State) → Holds (F.printed self.old.print) self.old.store (R.world rig.old) s
+            → IfOk result (λ done. Tells (F.printed self.old.print) done (write_answer (sizes_of self.old.store.journal.geo) s address block.now)) }
         ensures holds { R.tells → (s : State) → Holds (F.printed self.old.print) self.old.store (R.world rig.old) s
             → HoldsThen (F.printed self.old.print) result s (reference (sizes_of self.old.store.journal.geo) s address block.now) self.new.store (R.world rig.new) }
         ensures aligned { R.tells → (c s : State) → Kept (F.printed self.old.print) self.old.store (R.world rig.old) c s → is_rewrite s address block.now ≡ false → Aligned self.old.store.journal.geo.bcap s
@@ -58,6 +60,8 @@ impl<F: Fingerprint, L: Lists> Store<F, L> {
         ensures disk { IfOk result (λ done. HasRoom address (want_for done.kind) self.old.store → CalledAtMost nothing (R.counts rig.old).disk (R.counts rig.new).disk) }
         ensures calm { IfOk result (λ done. IsCalm done.cut → CalledAtMost nothing (R.counts rig.old).disk (R.counts rig.new).disk) }
         ensures idle { HasRoom address FreshBlock self.old.store → CalledAtMost nothing (R.counts rig.old).disk (R.counts rig.new).disk }
+        ensures idle_held { R.tells → (s : State) → Holds (F.printed self.old.print) self.old.store (R.world rig.old) s → HasRoom address (want_by block.now s.blocks) self.old.store
+            → CalledAtMost nothing (R.counts rig.old).disk (R.counts rig.new).disk }
         ensures loads { OnOk result (LoadsAtMost 2 self.old.store self.new.store (R.counts rig.old).disk (R.counts rig.new).disk) }
         ensures reads { (R.counts rig.new).disk.reads ≤ (R.counts rig.old).disk.reads }
         ensures fault { IfErr result (λ fault. fault ≢ DiskRead) }

@@ -59,10 +59,11 @@ returns-in-Ok-refer_fresh-clause-serves g c = λ told was s kept printed some un
     (printed ∙ ap (λ f. g.F.Fingerprint.printed f c.args.block.now) (sym c.prepare.ensures.print)) some unknown read))))
 
 pub returns-in-Ok-refer_fresh-clause-tells : goal.returns-in-Ok-refer_fresh-clause-tells
-returns-in-Ok-refer_fresh-clause-tells g c = λ told was s kept printed some unknown read.
-    let roomy = (c.in-Ok.ensures.serves told was s kept).leaves in
-    let told_it = c.in-Ok-refer_fresh.ensures.tells told roomy.committed s (subst (λ f. Kept (g.F.Fingerprint.printed f) c.prepare.new.self.store (g.R.Rig.world c.prepare.new.rig) roomy.committed s) (sym c.prepare.ensures.print) roomy.kept)
-    (printed ∙ ap (λ f. g.F.Fingerprint.printed f c.args.block.now) (sym c.prepare.ensures.print)) some unknown read in
+returns-in-Ok-refer_fresh-clause-tells g c = λ told s holds printed some unknown read.
+    let middle = g.R.Rig.world c.prepare.new.rig in
+    let held : Holds (g.F.Fingerprint.printed c.prepare.new.self.print) c.prepare.new.self.store middle s =
+    subst (λ f. Holds (g.F.Fingerprint.printed f) c.prepare.new.self.store middle s) (sym c.prepare.ensures.print) (c.in-Ok.ensures.holds told s holds) in
+    let told_it = c.in-Ok-refer_fresh.ensures.tells told s held (printed ∙ ap (λ f. g.F.Fingerprint.printed f c.args.block.now) (sym c.prepare.ensures.print)) some unknown read in
     subst (λ f. Tells (g.F.Fingerprint.printed f) (record { kind = c.fresh_kind.result; cut = c.in-Ok-refer_fresh.cut }) (answer_for c.args.dirty (sizes_of c.args.self.now.store.journal.geo) s c.args.address c.args.block.now)) c.prepare.ensures.print
     (subst (λ (geo : Geometry). Tells (g.F.Fingerprint.printed c.prepare.new.self.print) (record { kind = c.fresh_kind.result; cut = c.in-Ok-refer_fresh.cut }) (answer_for c.args.dirty (sizes_of geo) s c.args.address c.args.block.now)) c.in-Ok.ensures.rows.geometry
     (subst (λ k. Tells (g.F.Fingerprint.printed c.prepare.new.self.print) (record { kind = k; cut = c.in-Ok-refer_fresh.cut }) (answer_for c.args.dirty (sizes_of c.prepare.new.self.store.journal.geo) s c.args.address c.args.block.now)) (sym c.fresh_kind.ensures) told_it))

@@ -22,11 +22,10 @@ returns-in-Ok-clause-serves g c = λ told was s kept bytes carries.
     (g.R.Rig.clock c.args.rig.now) (g.R.Rig.clock c.prepare.new.rig) c.refer_known.new.self.store (record { kind = c.kind_of.result; cut = c.refer_known.result }) c.refer_known.ensures.store (c.in-Ok.ensures.serves told was s kept)
 
 pub returns-in-Ok-clause-tells : goal.returns-in-Ok-clause-tells
-returns-in-Ok-clause-tells g c = λ told was s kept bytes carries kind.
-    let roomy = (c.in-Ok.ensures.serves told was s kept).leaves in
-    joined_tells (g.F.Fingerprint.printed c.args.self.now.print) c.args.self.now.store c.prepare.new.self.store (g.R.Rig.world c.args.rig.now) (g.R.Rig.world c.prepare.new.rig) was s c.args.its c.args.address c.args.block c.args.dirty bytes
-    c.in-Ok.ensures.rows c.refer_known.ensures.keeps c.refer_known.ensures.fits c.requires.known kept carries
-    roomy.committed roomy.kept (record { kind = c.kind_of.result; cut = c.refer_known.result }) (λ i. record { kind = c.kind_of.ensures i; cut = c.refer_known.ensures.cut i }) kind
+returns-in-Ok-clause-tells g c = λ told s holds bytes carries kind.
+    joined_tells (g.F.Fingerprint.printed c.args.self.now.print) c.args.self.now.store c.prepare.new.self.store (g.R.Rig.world c.args.rig.now) (g.R.Rig.world c.prepare.new.rig) s c.args.its c.args.address c.args.block c.args.dirty bytes
+    c.in-Ok.ensures.rows c.refer_known.ensures.keeps c.refer_known.ensures.fits c.requires.known holds (c.in-Ok.ensures.holds told s holds) carries
+    (record { kind = c.kind_of.result; cut = c.refer_known.result }) (λ i. record { kind = c.kind_of.ensures i; cut = c.refer_known.ensures.cut i }) kind
 
 pub returns-in-Ok-clause-rows : goal.returns-in-Ok-clause-rows
 returns-in-Ok-clause-rows g c = record {

@@ -1,5 +1,5 @@
 use Rattle.dd_block.specs.declared.geometry.Geometry.{Geometry}
-use Rattle.std.proofs.Common.{◌≡◌, ℕ, None, false, length, refl, sym, ◌∙◌, ap, subst, arith}
+use Rattle.std.proofs.Common.{◌≡◌, ℕ, false, length, refl, sym, ◌∙◌, ap, subst, arith}
 use Rattle.std.specs.Prelude.{Option, IfSome}
 use Rattle.dd_record.specs.Table.{is_dirty_at}
 use Rattle.std.specs.List.{list_any}

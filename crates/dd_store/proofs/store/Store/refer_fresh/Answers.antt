@@ -151,7 +151,7 @@ returns-in-Some-clause-serves g c = λ told was_it s kept printed some unknown r
         either = inl refl;
         kept = subst (λ (v : StoreView). Kept print v world was_it (reference (sizes_of c.args.self.now.store.journal.geo) s c.args.address c.args.block.now)) (sym after)
             (subst (λ (v : StoreOf g.row.F.Denot). Kept print (referred_store (Store c.args.address c.in-Some.slot c.args.fp c.args.dirty) (touch_by c.args.address (given.Fresh (record { slot = c.in-Some.slot; fp = c.args.fp })) c.args.dirty (listing_in was)) was) world was_it (reference (sizes_of v.store.journal.geo) s c.args.address c.args.block.now)) c.self.view_is
-            (entered_kept i.up i.journal lists i.count i.pending.items i.slots.uses i.laid.items is i.geo c.self.invariant.5 c.self.invariant.0 (g.met.L.Lists.kept i.lists) c.args.address c.in-Some.slot c.args.fp c.args.dirty prepared spare anew print world was_it s held c.args.block.now below long there printed some unknown read));
+            (entered_kept i.up i.journal lists i.count i.pending.items i.slots.uses i.laid.items is i.geo c.self.invariant.5 c.self.invariant.0 (g.met.L.Lists.kept i.lists) c.args.address c.in-Some.slot c.args.fp c.args.dirty prepared spare anew print world s held.holds c.args.block.now below long there printed some unknown read was_it held));
       };
     }
 
@@ -187,7 +187,7 @@ returns-in-Some-clause-holds g c = λ told s holds printed some unknown read.
     (entered_holds i.up i.journal lists i.count i.pending.items i.slots.uses i.laid.items is i.geo c.self.invariant.5 c.self.invariant.0 (g.met.L.Lists.kept i.lists) c.args.address c.in-Some.slot c.args.fp c.args.dirty prepared spare anew print world s held c.args.block.now below long there printed some unknown read))
 
 pub returns-in-Some-clause-tells : goal.returns-in-Some-clause-tells
-returns-in-Some-clause-tells g c = λ told was_it s kept printed some unknown read.
+returns-in-Some-clause-tells g c = λ told s holds printed some unknown read.
     let i = c.self.inside in
     let lists = g.L.Lists.listing i.lists in
     let was : StoreView = store_of i.up i.journal lists i.count i.pending.items i.slots.uses i.laid.items in
@@ -202,13 +202,13 @@ returns-in-Some-clause-tells g c = λ told was_it s kept printed some unknown re
     let bcap : lists.bcap ≡ i.journal.geo.bcap = limits.bcap ∙ ap (λ (geo : Geometry). geo.bcap) (sym c.self.invariant.0) in
     let world = g.R.Rig.world c.place_block.new.rig in
     let print = g.F.Fingerprint.printed c.args.self.now.print in
-    let base : Kept print was (g.R.Rig.world c.args.rig.now) was_it s = subst (λ (v : StoreOf g.row.F.Denot). Kept print v.store (g.R.Rig.world c.args.rig.now) was_it s) (sym c.self.view_is) kept in
+    let base : Holds print was (g.R.Rig.world c.args.rig.now) s = subst (λ (v : StoreOf g.row.F.Denot). Holds print v.store (g.R.Rig.world c.args.rig.now) s) (sym c.self.view_is) holds in
     let has : HasSlots was i.slots = record { placed = subst (λ (geo : Geometry). AreSlotsOf geo i.slots) (sym c.self.invariant.0) c.self.invariant.4; same = refl } in
-    let held : Kept print was world was_it s = c.place_block.ensures.kept told print was was_it s has is base in
+    let held : Holds print was world s = c.place_block.ensures.holds told print was s has is base in
     let there = sym (block_there i.journal.geo i.slots world.flash.shown c.in-Some.slot has.placed) ∙ subst (λ o. IfSome o (λ slot. block_in i.slots world.flash.shown slot ≡ c.args.block.now)) c.in-Some.is (c.in-Ok.ensures.shows told) in
     let long : length c.args.block.now ≡ i.journal.geo.block = subst (λ (v : StoreOf g.row.F.Denot). length c.args.block.now ≡ v.store.journal.geo.block) (sym c.self.view_is) c.requires.long in
     subst (λ (v : StoreOf g.row.F.Denot). Tells print (record { kind = if c.args.dirty then New else Miss; cut = c.refer.result }) (answer_for c.args.dirty (sizes_of v.store.journal.geo) s c.args.address c.args.block.now)) c.self.view_is
-    (entered_tells i.up i.journal lists i.count i.pending.items i.slots.uses i.laid.items is i.geo c.self.invariant.5 c.self.invariant.0 (g.met.L.Lists.kept i.lists) c.args.address c.in-Some.slot c.args.fp c.args.dirty prepared spare anew print world was_it s held c.args.block.now below long there printed some unknown read c.refer.result c.refer.ensures.cut)
+    (entered_tells i.up i.journal lists i.count i.pending.items i.slots.uses i.laid.items is i.geo c.self.invariant.5 c.self.invariant.0 (g.met.L.Lists.kept i.lists) c.args.address c.in-Some.slot c.args.fp c.args.dirty prepared spare anew print world s held c.args.block.now below long there printed some unknown read c.refer.result c.refer.ensures.cut)
 
 pub returns-in-Some-clause-rows : goal.returns-in-Some-clause-rows
 returns-in-Some-clause-rows g c =

@@ -8,7 +8,7 @@ pub returns-clause-serves : goal.returns-clause-serves
 returns-clause-serves g c = λ told was s kept. c.bring-done.ensures.serves told was s kept (λ never. absurd (cc never))
 
 pub returns-clause-answer : goal.returns-clause-answer
-returns-clause-answer g c = λ told was s kept. c.bring-done.ensures.tells told was s kept (λ never. absurd (cc never))
+returns-clause-answer g c = λ told was s kept. c.bring-done.ensures.tells told s kept.holds (λ never. absurd (cc never))
 
 pub returns-clause-aligned : goal.returns-clause-aligned
 returns-clause-aligned g c = λ told was s kept none aligned.
@@ -20,3 +20,6 @@ returns-clause-calm g c =
 
 pub returns-clause-holds : goal.returns-clause-holds
 returns-clause-holds g c = λ told s holds. c.bring-done.ensures.holds told s holds (λ never. absurd (cc never))
+
+pub returns-clause-tells : goal.returns-clause-tells
+returns-clause-tells g c = λ told s holds. c.bring-done.ensures.tells told s holds (λ never. absurd (cc never))
