@@ -14,11 +14,9 @@ use Rattle.dd_record.specs.declared.row.BRow.{BRow}
 use Rattle.dd_record.specs.declared.row.Link.{Link}
 use Rattle.dd_record.specs.declared.row.Link.TheVariants as links
 use Rattle.dd_record.specs.Table.{a_row, b_row, is_link, link_at, is_dirty_at}
-use Rattle.dd_record.specs.Replay.{Touch, cut_address, cut_block, hit_of, linked_row, raises, touch_of}
-use Rattle.dd_model.specs.declared.done.Cut.{Cut}
+use Rattle.dd_record.specs.Replay.{Touch, cut_address, cut_block, hit_of, linked_row, touch_of}
 use Rattle.dd_model.specs.declared.done.Done.{Done}
 use Rattle.dd_model.specs.declared.done.Victims.{Victims}
-use Rattle.dd_model.specs.declared.given.Want.{Want}
 use Rattle.dd_model.specs.declared.kind.Kind.{Kind}
 use Rattle.dd_model.specs.declared.kind.Kind.TheVariants as kind
 use Rattle.dd_model.specs.Listing.{last_of_full, refers, victims_of}

@@ -1,11 +1,10 @@
 -- A hit of a block that isn't zeros makes a read of the flash, and no other reference is a hit.
-use Rattle.std.proofs.Common.{◌≡◌, ◌≢◌, ℕ, ◌≤◌, Bool, true, false, List, Ok, Err, sym, ◌∙◌, ap, subst, arith, if◌then◌else◌}
+use Rattle.std.proofs.Common.{◌≡◌, ◌≢◌, ℕ, ◌≤◌, Bool, true, false, List, Ok, Err, sym, ◌∙◌, subst, if◌then◌else◌}
 use Rattle.std.specs.Prelude.{Result, IfOk}
 use Rattle.dd_rig.specs.Counts.{count_read, Rose}
 use Rattle.dd_rig.specs.declared.device.Dev.TheVariants.{Flash}
 use Rattle.dd_rig.specs.declared.tallies.Counts.{Counts}
 use Rattle.dd_model.specs.declared.done.Done.{Done}
-use Rattle.dd_model.specs.declared.kind.Kind.{Kind}
 use Rattle.dd_model.specs.declared.kind.Kind.TheVariants.{Hit, Join, Miss, Dup, New}
 use Rattle.dd_model.specs.State.{is_zero_block}
 use Rattle.dd_store.specs.declared.fault.StoreFault.{StoreFault}

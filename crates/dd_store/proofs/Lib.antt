@@ -15,6 +15,7 @@ pub mod Fresh
 pub mod Growing
 pub mod Hits
 pub mod Holding
+pub mod Keeping
 pub mod Kept
 pub mod Known
 pub mod Laying
@@ -38,6 +39,7 @@ pub mod Sole
 pub mod Sure
 pub mod Telling
 pub mod Ticking
+pub mod Untouched
 pub mod UsedSlots
 pub mod Uses
 pub mod Using

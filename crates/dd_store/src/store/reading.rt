@@ -15,11 +15,11 @@ ghost use Rattle.dd_model.specs.Reference.{reference, read_answer, Tells};
 ghost use Rattle.dd_model.specs.State.{State, content, is_zero_block};
 ghost use Rattle.dd_store.specs.declared.fault.StoreFault.TheVariants.{FlashRead, DiskRead};
 ghost use Rattle.dd_store.specs.Meaning.{sizes_of};
-ghost use Rattle.dd_store.specs.Keeping.{IsStore, Kept};
+ghost use Rattle.dd_store.specs.Keeping.{IsStore, Holds, Kept};
 ghost use Rattle.dd_store.specs.Referring.{listing_in};
 ghost use Rattle.dd_store.specs.Rounds.{Cleans, HasRoom, LoadsAtMost};
 ghost use Rattle.dd_store.specs.Bringing.{IsPrepared, References, HitCalls, IsCalm, want_for, saves, fetches, IsReadFault};
-ghost use Rattle.dd_store.specs.Serving.{MayCall, Serves, StaysUp, Faulted, GrowsLittle, unlaid};
+ghost use Rattle.dd_store.specs.Serving.{MayCall, Serves, HoldsThen, StaysUp, Faulted, GrowsLittle, unlaid};
 
 use super::Store;
 use crate::StoreFault;
@@ -51,6 +51,10 @@ impl<F: Fingerprint, L: Lists> Store<F, L> {
             (reference (sizes_of self.old.store.journal.geo) s address (content s.array address)) }
         ensures answer { R.tells → (c s : State) → Kept (F.printed self.old.print) self.old.store (R.world rig.old) c s
             → IfOk result (λ done. (into.new ≡ content s.array address) × Tells (F.printed self.old.print) done (read_answer (sizes_of self.old.store.journal.geo) s address)) }
+        ensures tells { R.tells → (s : State) → Holds (F.printed self.old.print) self.old.store (R.world rig.old) s
+            → IfOk result (λ done. (into.new ≡ content s.array address) × Tells (F.printed self.old.print) done (read_answer (sizes_of self.old.store.journal.geo) s address)) }
+        ensures holds { R.tells → (s : State) → Holds (F.printed self.old.print) self.old.store (R.world rig.old) s
+            → HoldsThen (F.printed self.old.print) result s (reference (sizes_of self.old.store.journal.geo) s address (content s.array address)) self.new.store (R.world rig.new) }
         ensures aligned { R.tells → (c s : State) → Kept (F.printed self.old.print) self.old.store (R.world rig.old) c s → Aligned self.old.store.journal.geo.bcap s
             → OnOk result (Aligned self.old.store.journal.geo.bcap (reference (sizes_of self.old.store.journal.geo) s address (content s.array address))) }
         ensures unsaid { R.tells → Elapses (R.clock rig.old) (R.clock rig.new) (λ o. o.out ≡ (R.world rig.old).said) }
