@@ -156,9 +156,9 @@ module _ (old new : StoreView) (before after : Counts) (falls : NeverFalls befor
   loads_for New linked is hit h = absurd is
 
   fetches_for : (kind : Kind) → IsRead kind → CalledAtMost (up_to (fetches kind) 0 0) before.disk after.disk → calls_of after.disk ≤ calls_of before.disk + load_of kind
-  fetches_for Hit is h = omega (arith, h.0, h.1.0)
-  fetches_for Join is h = omega (arith, h.0, h.1.0)
-  fetches_for Miss is h = omega (arith, h.0, h.1.0)
+  fetches_for Hit is h = omega (arith, h.0, h.1)
+  fetches_for Join is h = omega (arith, h.0, h.1)
+  fetches_for Miss is h = omega (arith, h.0, h.1)
   fetches_for Dup is h = absurd is
   fetches_for New is h = absurd is
 

@@ -33,7 +33,7 @@ use Rattle.dd_loop.specs.Serving.{ServedUpTo}
 use Rattle.dd_loop.proofs.Reading.{commands_some}
 use Rattle.dd_store.specs.Serving.{StoreOf}
 use Rattle.dd_answers.specs.Headline.{IsUnopened}
-use Rattle.dd_answers.specs.Opening.{ending_of, IsUnserved, Refuses}
+use Rattle.dd_answers.specs.Opening.{ending_of, IsUnserved, RefusesDevices}
 use Rattle.dd_answers.specs.Serving.{Caused, Ends, LinesPaid, IsBounded, IsServed, LoopEnds, Serves}
 use Rattle.dd_answers.specs.Costs.{calls_of}
 use Rattle.dd_answers.proofs.Finishing.{unserved}
@@ -260,8 +260,8 @@ module _ (line : List ℕ) (before between after : Counts) (falls : NeverFalls b
   says_since old middle new same (inr cut) = inr (omega (arith, cut.0, falls.emits), cut.1, cut.2 ∙ ap (λ (l : List ℕ). l ++ take cut.1 (ended line)) same)
 
 -- the opening syncs the disk at most
-pub opened_calls : {flash : Quota} {a b : Counts} → Makes flash (up_to 0 1 0) a b → calls_of b.disk ≤ calls_of a.disk + 1
-opened_calls makes = omega (arith, makes.1.0, makes.1.1.0)
+pub opened_calls : (flash : Quota) (a b : Counts) → Makes flash (up_to 0 1 0) a b → calls_of b.disk ≤ calls_of a.disk + 1
+opened_calls flash a b makes = omega (arith, makes.1.0, makes.1.1)
 
 -- what a run says behind calls that say nothing
 pub serves_since : (print : List ℕ → Fp) (sizes : Sizes) (start : State) (script : List ℕ) (opening : ℕ) (status : ℕ) (old middle new : World) (before between after : Counts) → NeverFalls before between → NeverFalls between after → calls_of between.disk ≤ calls_of before.disk + opening → middle.said ≡ old.said
@@ -294,7 +294,7 @@ serves_since print sizes start script opening status old middle new before betwe
 -- how a refused run ends
 pub refuses_so : (fault : OpenFault) (size : Dev → ℕ) (before between after : Counts) (old middle new : World) → IsFirstFault size old.flash.shown fault × (why : Refusal) × (ending_of fault ≡ Refused why) → (ending : Ending) → ending ≡ ending_of fault
     → NeverFalls before between → middle.said ≡ old.said → ((device : Dev) → shown device middle ≡ shown device old) → SaysLast (ending_line ending) between after middle new → (new.flash ≡ middle.flash) × (new.disk ≡ middle.disk)
-    → Refuses size old.flash.shown before after old new
+    → RefusesDevices size old.flash.shown before after old new
 refuses_so fault size before between after old middle new first ending is falls same shows says devices = record {
   fault = fault;
   first = first.0;

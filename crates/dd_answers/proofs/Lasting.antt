@@ -31,7 +31,7 @@ use Rattle.dd_loop.specs.declared.halt.Halt.{Halt}
 use Rattle.dd_loop.specs.declared.halt.Halt.TheVariants as halts
 use Rattle.dd_loop.specs.Answering.{CountsFaults, HasFault}
 use Rattle.dd_loop.specs.Ending.{status_of, ending_line, SaysLast, WithinLast}
-use Rattle.dd_loop.specs.Saying.{SaysAlone, EndsIn}
+use Rattle.dd_loop.specs.Saying.{SaysAlone, EndsIn, IsIdle}
 use Rattle.dd_loop.specs.Serving.{Sofar, ServedAll, ServedUpTo}
 use Rattle.dd_loop.specs.Standing.{Stood, StandForPrefix}
 use Rattle.dd_loop.proofs.Faults.{counts_both, counts_later}

@@ -1,5 +1,6 @@
 -- What a store that served lines has paid and holds, by the counts and the devices alone.
-use Rattle.std.proofs.Common.{◌≡◌, ℕ, ◌+◌, ◌*◌, ◌<◌, ◌≤◌, Bool, true, false, List, [], length, map, sym, ◌∙◌, ap, subst, arith, refl}
+use Rattle.std.proofs.Common.{◌≡◌, ℕ, ◌+◌, ◌*◌, ◌<◌, ◌≤◌, Bool, true, false, List, [], length, map, sym, ◌∙◌, ap, subst, arith, refl, Ok, Err}
+use Rattle.std.specs.Prelude.{Result, IfOk, IfErr}
 use Rattle.std.proofs.lemmas.List.{ext_get_or, length-map, nil_from_length}
 use Rattle.dd_block.specs.declared.print.Fp.{Fp}
 use Rattle.dd_block.specs.declared.geometry.Geometry.{Geometry}
@@ -16,7 +17,7 @@ use Rattle.dd_store.specs.Keeping.{StoreView, Kept}
 use Rattle.dd_store.specs.Meaning.{Means, sizes_of}
 use Rattle.dd_loop.specs.Answering.{Pays}
 use Rattle.dd_loop.specs.Standing.{IsHeld}
-use Rattle.dd_answers.specs.Costs.{CostsLines, HasArrayBehind}
+use Rattle.dd_answers.specs.Costs.{CostsLines, HasArray, HasArrayBehind}
 use Rattle.dd_answers.specs.Serving.{LinesPaid}
 
 -- what a store has paid whose dirty addresses were no more than these
@@ -46,12 +47,19 @@ array_held geo print flash disk table count s means none =
     array_block geo.block geo.blocks disk address below ∙ sym (means.clean address below (none address)))
 
 -- and so behind lines that leave none dirty
-pub drained_by : (geo : Geometry) (print : List ℕ → Fp) (old new : StoreView) (world : World) (before after : Counts) → old.journal.geo ≡ geo → new.journal.geo ≡ geo → length old.dirty ≤ old.journal.geo.acap
+pub drained_by : (print : List ℕ → Fp) (old new : StoreView) (world : World) (before after : Counts) → sizes_of new.journal.geo ≡ sizes_of old.journal.geo → length old.dirty ≤ old.journal.geo.acap
     → (new.dirty ≡ [] → (address : ℕ) → is_dirty_at address new.table.a ≡ false) → (lines : List (List ℕ)) (s : State) → Pays (CostsLines old new) before after lines 0 → IsHeld (λ committed held. Kept print new world committed held) s
-    → HasArrayBehind (sizes_of geo) world lines s
-drained_by geo print old new world before after was is few known lines s paid held = λ none.
-    let acap : old.journal.geo.acap ≡ geo.acap = ap (λ (g : Geometry). g.acap) was in
-    let end : length new.dirty ≤ dirty_after geo.acap (length old.dirty) lines = subst (λ n. length new.dirty ≤ dirty_after n (length old.dirty) lines) acap (paid.0.dirty refl few) in
-    let empty : new.dirty ≡ [] = nil_from_length new.dirty (omega (arith, end, dirty_more geo.acap (length old.dirty) geo.acap lines (omega (arith, few, acap)), none)) in
-    let means = held.1.holds.means in
-    array_held geo print world.flash.shown world.disk.shown new.table new.count s (subst (λ (g : Geometry). Means print g world.flash.shown world.disk.shown new.table new.count s) is means) (known empty)
+    → HasArrayBehind (sizes_of old.journal.geo) world lines s
+drained_by print old new world before after same few known lines s paid held = λ none.
+    let acap : ℕ = old.journal.geo.acap in
+    let end : length new.dirty ≤ dirty_after acap (length old.dirty) lines = paid.0.dirty refl few in
+    let empty : new.dirty ≡ [] = nil_from_length new.dirty (omega (arith, end, dirty_more acap (length old.dirty) acap lines few, none)) in
+    subst (λ (sizes : Sizes). HasArray sizes world s) same (array_held new.journal.geo print world.flash.shown world.disk.shown new.table new.count s held.1.holds.means (known empty))
+
+pub ok_map : {T E : Type 0} (result : Result T E) (P Q : T → Type 0) → ((x : T) → P x → Q x) → IfOk result P → IfOk result Q
+ok_map (Ok x) P Q f h = f x h
+ok_map (Err e) P Q f h = tt
+
+pub err_map : {T E : Type 0} (result : Result T E) (P Q : E → Type 0) → ((e : E) → P e → Q e) → IfErr result P → IfErr result Q
+err_map (Ok x) P Q f h = tt
+err_map (Err e) P Q f h = f e h

@@ -2,7 +2,7 @@
 ghost use Rattle.std.specs.Prelude.{◌≡◌, ◌<◌, ℕ};
 ghost use Rattle.dd_model.specs.Applying.{IsSlotBelow};
 
-use crate::{Lists, Misfit, PlainLists, apply};
+use crate::{Lists, Misfit, Orphans, PlainLists, apply};
 use dd_block::Fp;
 use dd_record::{ARow, BRow, Link, Rec, Rows};
 use std::test::Fail;
@@ -144,6 +144,23 @@ fn dirty_addresses_by_age_and_by_slot(rt: HostRuntime) -> Result<(), Fail> {
     assert_eq!(rt; second_dirty(&lists), Some(5));
     assert_eq!(rt; two_referrers(&lists, 0, 5), Some((4, 6)));
     assert_eq!(rt; two_referrers(&lists, 1, 5), None);
+    Ok(())
+}
+
+// r 4 and r 5 of one block, r 6 of another one, then w 6 of a third: the first block falls off and both its
+// addresses are without one, and the second has no address any more.
+#[test]
+fn orphans_of_both_lists(rt: HostRuntime) -> Result<(), Fail> {
+    let mut lists = PlainLists::new(rt.alloc(), 3, 2, 3)?;
+    assert_eq!(rt; cut_by(&mut lists, store(4, 0, false)), Some((None, None)));
+    assert_eq!(rt; cut_by(&mut lists, link(5, 0, false)), Some((None, None)));
+    assert_eq!(rt; cut_by(&mut lists, store(6, 1, false)), Some((None, None)));
+    assert_eq!(rt; lists.orphans(), Orphans { a: 0, b: 0 });
+    assert_eq!(rt;
+        cut_by(&mut lists, store(6, 2, true)),
+        Some((None, Some(0)))
+    );
+    assert_eq!(rt; lists.orphans(), Orphans { a: 2, b: 1 });
     Ok(())
 }
 

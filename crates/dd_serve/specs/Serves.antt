@@ -13,7 +13,7 @@ use Rattle.dd_recover.specs.declared.opening_fault.OpenFault.{OpenFault}
 use Rattle.dd_script.specs.Output.{dialect_of}
 use Rattle.dd_script.specs.Reading.{IsTakenTo}
 use Rattle.dd_answers.specs.Headline.{Begins, Promises, sizes_from}
-use Rattle.dd_answers.specs.Opening.{IsCaused, IsUnserved, Refuses}
+use Rattle.dd_answers.specs.Opening.{EndsForCause, IsUnserved, RefusesDevices}
 use Rattle.dd_answers.specs.Serving.{IsBounded, Serves}
 
 -- The promise on crashes: a crash within the run or behind it leaves the devices as before the opening, or so that they stand for the
@@ -24,14 +24,14 @@ pub record KeepsPromise (print : List ℕ → Fp) (script : List ℕ) (old new :
 
 -- What it says, takes, and why it ends.
 pub record ServesScript (print : List ℕ → Fp) (status : ℕ) (tells script_tells same_source : Type 0) (size : Dev → ℕ) (script rest : List ℕ) (takes_before takes_after : ℕ) (before after : Counts) (old new : World) : Type 0 where
-  -- its lines answer the commands, and the status says how it ended
-  pub says : tells → script_tells → (from : Begins print old) → Serves print (sizes_from from) from.start script status old new before after
+  -- its lines answer the commands, the status says how it ended, and the devices were called no more than the lines tell
+  pub says : tells → script_tells → (from : Begins print old) → Serves print (sizes_from from) from.start script 1 status old new before after
   -- where no call fails and the script is bounded, it is served, or there is no memory
   pub ends_well : tells → script_tells → (from : Begins print old) → IsQuiet before after → IsStill takes_before takes_after → IsBounded (sizes_from from) script → (status ≡ 0) ⊎ (status ≡ 4)
   -- which count rose
-  pub caused : IsCaused same_source ((sizes : Sizes) × (script_tells → IsBounded sizes script → ⊥)) status before after takes_before takes_after
+  pub caused : EndsForCause same_source ((sizes : Sizes) × (script_tells → IsBounded sizes script → ⊥)) status before after takes_before takes_after
   -- it is refused by the first condition of the devices, and served only where there is none
-  pub refused : tells → status ≡ 3 → Refuses size (shown Flash old) before after old new
+  pub refused : tells → status ≡ 3 → RefusesDevices size (shown Flash old) before after old new
   pub unopened : tells → (fault : OpenFault) → IsFirstFault size (shown Flash old) fault → IsUnserved status
   -- a script that was served is taken to its end or its quit and up to 4,096 bytes behind that; refused, or without memory, nothing is taken
   pub taken : tells → script_tells → (from : Begins print old) → status ≤ 1 → IsTakenTo (dialect_of (sizes_from from)) script rest

@@ -20,7 +20,7 @@ use Rattle.dd_model.proofs.Kept.{found_key}
 use Rattle.dd_store.specs.declared.fault.StoreFault.{StoreFault}
 use Rattle.dd_store.specs.declared.fault.StoreFault.TheVariants.{FlashRead, DiskRead, FlashWrite, DiskWrite}
 use Rattle.dd_store.specs.Bringing.{Carries, answer_for}
-use Rattle.dd_store.specs.Keeping.{StoreView, IsStore, Kept}
+use Rattle.dd_store.specs.Keeping.{StoreView, IsStore, Kept, Holds}
 use Rattle.dd_store.specs.Meaning.{sizes_of}
 use Rattle.dd_store.specs.Referring.{RecordFits, listing_in, is_fresh_block, kind_of, done_of, referred_store}
 use Rattle.dd_store.specs.Rounds.{Cleans}
@@ -30,7 +30,7 @@ use Rattle.dd_store.proofs.Carried.{carries_still}
 use Rattle.dd_store.proofs.Flushing.{kept_unlaid}
 use Rattle.dd_store.proofs.LayingRow.{behind_read, kept_read}
 use Rattle.dd_store.proofs.Prepared.{same_touch}
-use Rattle.dd_store.proofs.Referring.{kept_referred}
+use Rattle.dd_store.proofs.Referring.{holds_referred, kept_referred}
 use Rattle.dd_store.proofs.Serves.{serves_then}
 use Rattle.dd_store.proofs.UsedSlots.{some_has}
 
@@ -82,11 +82,24 @@ module _ (print : List ℕ → Fp) (old middle : StoreView) (before after : Worl
         };
       })
 
-  pub joined_tells : (k : State) → Kept print middle after k s → (done : Done) → done ≡ done_of middle its (touch_by address block dirty (listing_in middle))
+-- and what is held then, whatever is committed, and what is answered
+module _ (print : List ℕ → Fp) (old middle : StoreView) (before after : World) (s : State) (its : Rec) (address : ℕ) (block : Block) (dirty : Bool) (bytes : List ℕ)
+    (cleans : Cleans old middle) (is : IsStore middle) (fits : RecordFits middle its (touch_by address block dirty (listing_in middle))) (known : is_fresh_block block ≡ false)
+    (was : Holds print old before s) (held : Holds print middle after s) (carries : Carries print old before.flash.shown s (touch_by address block dirty (listing_in old)) bytes) where
+  still : Carries print middle after.flash.shown s (touch_by address block dirty (listing_in middle)) bytes
+  still = subst (λ (t : Touch). Carries print middle after.flash.shown s t bytes) (sym (same_touch old middle cleans address block dirty))
+      (carries_still print old middle before after s cleans was held (touch_by address block dirty (listing_in old)) bytes (listed_row block old.table.b known) carries)
+
+  pub joined_holds : (new : StoreView) → new ≡ referred_store its (touch_by address block dirty (listing_in middle)) middle → Holds print new after (reference (sizes_of old.journal.geo) s address bytes)
+  joined_holds new new_is = subst (λ (v : StoreView). Holds print v after (reference (sizes_of old.journal.geo) s address bytes)) (sym new_is)
+      (subst (λ (g : Geometry). Holds print (referred_store its (touch_by address block dirty (listing_in middle)) middle) after (reference (sizes_of g) s address bytes)) cleans.geometry
+      (holds_referred print middle after s is held its (touch_by address block dirty (listing_in middle)) bytes (refers_of print middle after.flash.shown s its _ bytes fits still)))
+
+  pub joined_tells : (done : Done) → done ≡ done_of middle its (touch_by address block dirty (listing_in middle))
       → kind_of its ≡ (answer_for dirty (sizes_of old.journal.geo) s address bytes).kind → Tells print done (answer_for dirty (sizes_of old.journal.geo) s address bytes)
-  joined_tells k held done done_is kind = subst (λ (d : Done). Tells print d (answer_for dirty (sizes_of old.journal.geo) s address bytes)) (sym done_is)
+  joined_tells done done_is kind = subst (λ (d : Done). Tells print d (answer_for dirty (sizes_of old.journal.geo) s address bytes)) (sym done_is)
       (subst (λ (g : Geometry). kind_of its ≡ (answer_for dirty (sizes_of g) s address bytes).kind → Tells print (done_of middle its (touch_by address block dirty (listing_in middle))) (answer_for dirty (sizes_of g) s address bytes)) cleans.geometry
-      (tells_as print middle after s is held.holds its (touch_by address block dirty (listing_in middle)) bytes (refers_of print middle after.flash.shown s its _ bytes fits (there k held))) kind)
+      (tells_as print middle after s is held its (touch_by address block dirty (listing_in middle)) bytes (refers_of print middle after.flash.shown s its _ bytes fits still)) kind)
 
 -- a fault says nothing of the next state
 pub serves_fault : (T U : Type 0) (print : List ℕ → Fp) (first last : Clock) (store : StoreView) (world : World) (c s next other : State) (fault : StoreFault)

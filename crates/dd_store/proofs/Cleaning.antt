@@ -119,6 +119,10 @@ dirty_few store is =
     let rows = store.table.a in
     omega (arith, few_among (λ address. is_dirty_at address rows) store.dirty (map (λ (row : ARow). row.address) rows) is.dirty (λ m dirty. dirty_listed m rows dirty), length-map rows (λ (row : ARow). row.address), is.rows.len_a)
 
+-- where none is among the dirty ones no address is dirty
+pub none_dirty_at : (store : StoreView) → IsStore store → store.dirty ≡ [] → (at : ℕ) → is_dirty_at at store.table.a ≡ false
+none_dirty_at store is none at = sym (is.dirty.each at) ∙ ap (is_among at) none
+
 -- where no dirty address is left none is dirty
 pub none_dirty : (old new : StoreView) → IsStore old → Cleans old new → new.dirty ≡ [] → (at : ℕ) → is_dirty_at at new.table.a ≡ false
 none_dirty old new is cleans none at =

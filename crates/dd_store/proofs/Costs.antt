@@ -1,3 +1,4 @@
+use Rattle.dd_rig.specs.declared.tallies.Calls.{Calls}
 -- What it costs to bring a content, by the kind of the reference.
 use Rattle.std.proofs.Common.{◌≡◌, ℕ, ◌*◌, ◌<◌, ◌==◌, Bool, true, false, cond, List, [], ◌∷◌, refl, sym, ◌∙◌, ap, subst, arith, Some}
 use Rattle.std.proofs.lemmas.Bool.{eqb-true}
@@ -32,6 +33,7 @@ references_unlaid : (address : ℕ) (dirty : Bool) (old now : StoreView) (done :
 references_unlaid address dirty old now done was = record {
   middle = was.middle;
   cleans = cleans_unlaid old was.middle was.cleans;
+  own = was.own;
   its = was.its;
   touch = was.touch;
   fits = was.fits;
@@ -46,10 +48,10 @@ pub references_behind : (address : ℕ) (dirty : Bool) (old middle now : StoreVi
 references_behind address dirty old middle now is (Ok done) was = references_unlaid address dirty old now done (subst (λ (v : StoreView). References address dirty v now done) is was)
 references_behind address dirty old middle now is (Err fault) was = tt
 
-room_known : (old : StoreView) (address slot : ℕ) → HasRoom address wants.Zero old → HasRoom address (wants.Slot slot) (unlaid old)
+pub room_known : (old : StoreView) (address slot : ℕ) → HasRoom address wants.Zero old → HasRoom address (wants.Slot slot) (unlaid old)
 room_known old address slot room = record { out = room.out; drop = room.drop }
 
-room_fresh : (old : StoreView) (address : ℕ) → HasRoom address wants.Fresh old → HasRoom address wants.Fresh (unlaid old)
+pub room_fresh : (old : StoreView) (address : ℕ) → HasRoom address wants.Fresh old → HasRoom address wants.Fresh (unlaid old)
 room_fresh old address room = record { out = room.out; drop = room.drop }
 
 prepared_known : (old : StoreView) (address slot : ℕ) → IsPrepared address wants.Zero old → IsPrepared address (wants.Slot slot) (unlaid old)
@@ -151,3 +153,7 @@ little_read address n m old middle is same a b c read counted linked (Ok done) s
 pub also : (A : Type 0) (P : Done → Type 0) (result : Result Done StoreFault) → A → IfOk result P → IfOk result (λ done. A × P done)
 also A P (Ok done) here told = (here, told)
 also A P (Err fault) here told = tt
+
+-- no call, and then none
+pub none_then : (before middle after : Calls) → CalledAtMost nothing before middle → CalledAtMost nothing middle after → CalledAtMost nothing before after
+none_then before middle after first next = (omega (arith, first.0, next.0), omega (arith, first.1, next.1), omega (arith, first.2, next.2))

@@ -25,7 +25,7 @@ use Rattle.dd_model.specs.State.{State, content, is_zero_block, is_known, is_at_
 use Rattle.dd_journal.specs.Sitting.{JournalView}
 use Rattle.dd_store.specs.declared.fault.StoreFault.TheVariants.{FlashWrite}
 use Rattle.dd_store.specs.Bringing.{IsPrepared, Carries, answer_for}
-use Rattle.dd_store.specs.Keeping.{StoreView, IsStore, Kept, is_spare}
+use Rattle.dd_store.specs.Keeping.{StoreView, IsStore, Holds, Kept, is_spare}
 use Rattle.dd_store.specs.Meaning.{Stands, sizes_of}
 use Rattle.dd_store.specs.Referring.{RecordFits, referred_store, listing_in}
 use Rattle.dd_store.specs.Serving.{HasLimits, Serves, store_of}
@@ -35,7 +35,7 @@ use Rattle.dd_store.proofs.Known.{known_listing, listing_same}
 use Rattle.dd_store.proofs.Located.{carries_fresh}
 use Rattle.dd_store.proofs.Prepared.{room_may}
 use Rattle.dd_store.proofs.Referred.{referred_is}
-use Rattle.dd_store.proofs.Referring.{kept_referred}
+use Rattle.dd_store.proofs.Referring.{holds_referred, kept_referred}
 use Rattle.dd_store.proofs.Telling.{kind_miss, kind_new}
 use Rattle.dd_store.proofs.Uses.{spare_unlisted}
 
@@ -82,28 +82,32 @@ module _ (is_up : Bool) (journal : JournalView) (lists : Listing) (count : ℕ) 
       pub entered_is : address < journal.geo.blocks → slot < journal.geo.bcap + journal.geo.spare → IsFp fp → IsStore (referred_store its touch was)
       entered_is below within printed = referred_is was is its touch entered_fits (below, within, printed) prepared.free
 
-      module _ (print : List ℕ → Fp) (world : World) (c s : State) (kept : Kept print was world c s) (block : List ℕ) (below : address < journal.geo.blocks) (long : length block ≡ journal.geo.block)
+      module _ (print : List ℕ → Fp) (world : World) (s : State) (holds : Holds print was world s) (block : List ℕ) (below : address < journal.geo.blocks) (long : length block ≡ journal.geo.block)
           (there : slot_block journal.geo world.flash.shown slot ≡ block) (printed : fp ≡ print block) (some : is_zero_block block ≡ false) (unknown : is_known block s.blocks ≡ false)
           (read : dirty ≡ false → block ≡ content s.array address) where
         carries : Carries print was world.flash.shown s touch block
-        carries = carries_fresh print was world s kept.holds address below block dirty long read slot fp (spare_unlisted was is slot spare) there printed some unknown
+        carries = carries_fresh print was world s holds address below block dirty long read slot fp (spare_unlisted was is slot spare) there printed some unknown
 
-        pub entered_kept : Kept print (referred_store its touch was) world c (reference (sizes_of journal.geo) s address block)
-        entered_kept = kept_referred print was world s is kept.holds its touch block (refers_of print was world.flash.shown s its touch block entered_fits carries) c kept
+        -- what is held then, whatever is committed
+        pub entered_holds : Holds print (referred_store its touch was) world (reference (sizes_of journal.geo) s address block)
+        entered_holds = holds_referred print was world s is holds its touch block (refers_of print was world.flash.shown s its touch block entered_fits carries)
+
+        pub entered_kept : (c : State) → Kept print was world c s → Kept print (referred_store its touch was) world c (reference (sizes_of journal.geo) s address block)
+        entered_kept c kept = kept_referred print was world s is holds its touch block (refers_of print was world.flash.shown s its touch block entered_fits carries) c kept
 
         away : is_at_hand block s.blocks ≡ false
         away = ap (λ b. b || is_known block s.blocks) some ∙ unknown
 
         kind : (b : Bool) → dirty ≡ b → (if b then New else Miss) ≡ (answer_for b (sizes_of journal.geo) s address block).kind
-        kind true e = sym (kind_new print was world s is kept.holds block away)
+        kind true e = sym (kind_new print was world s is holds block away)
         kind false e = sym (by_link anew)
           where
             by_link : (dirty ≡ true) ⊎ (link_at address lists.table.a ≡ Lost) → (answer_for false (sizes_of journal.geo) s address block).kind ≡ Miss
             by_link (inl is_dirty) = absurd (cc (sym e ∙ is_dirty))
-            by_link (inr lost) = kind_miss print was world s is kept.holds address lost (ap (λ (x : List ℕ). is_at_hand x s.blocks) (sym (read e)) ∙ away)
+            by_link (inr lost) = kind_miss print was world s is holds address lost (ap (λ (x : List ℕ). is_at_hand x s.blocks) (sym (read e)) ∙ away)
 
         pub entered_tells : (cut : Cut) → cut ≡ cut_of (touch_by address (given.Fresh (row_at slot fp)) dirty lists) lists
             → Tells print (record { kind = if dirty then New else Miss; cut = cut }) (answer_for dirty (sizes_of journal.geo) s address block)
         entered_tells cut cut_is = subst (λ (v : Cut). Tells print (record { kind = if dirty then New else Miss; cut = v }) (answer_for dirty (sizes_of journal.geo) s address block))
             (sym (cut_is ∙ ap (λ (l : Listing). cut_of (touch_by address (given.Fresh (row_at slot fp)) dirty l) l) same))
-            (tells_as print was world s is kept.holds its touch block (refers_of print was world.flash.shown s its touch block entered_fits carries) (kind dirty refl))
+            (tells_as print was world s is holds its touch block (refers_of print was world.flash.shown s its touch block entered_fits carries) (kind dirty refl))

@@ -116,3 +116,23 @@ holds_write_failed T print fault is s next store world = subst (λ (f : StoreFau
 -- where what is laid is forgotten, and no call is made
 pub holds_forgotten : (print : List ℕ → Fp) (store now : StoreView) (world : World) (s : State) → now ≡ unlaid store → Holds print store world s → Holds print now world s
 holds_forgotten print store now world s is holds = subst (λ (v : StoreView). Holds print v world s) (sym is) (holds_unlaid print store world s holds)
+
+-- a fault says nothing of the next state
+pub holds_fault : (T U : Type 0) (print : List ℕ → Fp) (fault : StoreFault) (s next other : State) (store : StoreView) (world : World) → HoldsThen {T = T} print (Err fault) s next store world → HoldsThen {T = U} print (Err fault) s other store world
+holds_fault T U print FlashRead s next other store world h = h
+holds_fault T U print DiskRead s next other store world h = h
+holds_fault T U print FlashWrite s next other store world h = h
+holds_fault T U print DiskWrite s next other store world h = h
+
+-- a write of the flash that failed
+pub holds_down : (T : Type 0) (print : List ℕ → Fp) (fault : StoreFault) → fault ≡ FlashWrite → (s next : State) (store : StoreView) (world : World) → HoldsThen {T = T} print (Err fault) s next store world
+holds_down T print fault is s next store world = subst (λ (f : StoreFault). HoldsThen {T = T} print (Err f) s next store world) (sym is) tt
+
+-- a read of the disk that failed
+pub holds_disk_failed : (T : Type 0) (print : List ℕ → Fp) (fault : StoreFault) → fault ≡ DiskRead → (s next : State) (store : StoreView) (world : World) → Holds print store world s → HoldsThen {T = T} print (Err fault) s next store world
+holds_disk_failed T print fault is s next store world holds = subst (λ (f : StoreFault). HoldsThen {T = T} print (Err f) s next store world) (sym is) holds
+
+-- behind a read a store holds what it held, with nothing laid
+pub holds_behind : (print : List ℕ → Fp) (old new : StoreView) (before after : World) (s : State) → new ≡ unlaid old → after ≡ before → Holds print old before s → Holds print new after s
+holds_behind print old new before after s is same holds =
+    subst (λ (v : StoreView). Holds print v after s) (sym is) (subst (λ (w : World). Holds print (unlaid old) w s) (sym same) (holds_unlaid print old before s holds))

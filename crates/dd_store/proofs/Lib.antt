@@ -1,7 +1,9 @@
 pub mod Agreeing
+pub mod Aligned
 pub mod Altering
 pub mod Answered
 pub mod Brought
+pub mod Calm
 pub mod Carried
 pub mod Cleaning
 pub mod Committing
@@ -11,7 +13,9 @@ pub mod Finding
 pub mod Flushing
 pub mod Fresh
 pub mod Growing
+pub mod Hits
 pub mod Holding
+pub mod Keeping
 pub mod Kept
 pub mod Known
 pub mod Laying
@@ -35,6 +39,7 @@ pub mod Sole
 pub mod Sure
 pub mod Telling
 pub mod Ticking
+pub mod Untouched
 pub mod UsedSlots
 pub mod Uses
 pub mod Using

@@ -59,7 +59,7 @@ out_all address cap [] rows = refl
 out_all address cap (clean ∷ done) rows = out_all address cap done (cleaned clean rows) ∙ out_cleaned address cap clean rows
 
 -- what is clean stays so
-clean_all : (at : ℕ) (done : List ℕ) (rows : List ARow) → is_dirty_at at rows ≡ false → is_dirty_at at (all_cleaned done rows) ≡ false
+pub clean_all : (at : ℕ) (done : List ℕ) (rows : List ARow) → is_dirty_at at rows ≡ false → is_dirty_at at (all_cleaned done rows) ≡ false
 clean_all at [] rows clean = clean
 clean_all at (address ∷ done) rows clean = clean_all at done (cleaned address rows) (dirty_cleaned address rows at ∙ ap (λ b. b && not (at == address)) clean)
 

@@ -16,11 +16,11 @@ use Rattle.dd_record.specs.Table.{has_slot}
 use Rattle.dd_model.specs.State.{State}
 use Rattle.dd_journal.specs.Sitting.{IsStablePart}
 use Rattle.dd_store.specs.Meaning.{Stands}
-use Rattle.dd_store.specs.Keeping.{StoreView, IsStore, Kept, is_spare}
+use Rattle.dd_store.specs.Keeping.{StoreView, IsStore, Holds, Kept, is_spare}
 use Rattle.dd_store.specs.Saving.{AreSlotsOf, HasSlots}
 use Rattle.dd_store.proofs.Altering.{Alters, alters_within, alters_flash}
 use Rattle.dd_store.proofs.Parts.{slot_within}
-use Rattle.dd_store.proofs.Sure.{Sure, sure_of, kept_of, sure_flash, still_means}
+use Rattle.dd_store.proofs.Sure.{Sure, sure_of, kept_of, sure_flash, means_still}
 use Rattle.dd_store.proofs.Uses.{spare_unlisted, spare_below}
 
 module _ (print : List ℕ → Fp) (store : StoreView) (old new : World) (flash_shows : IsImage old.flash old.flash.shown) (disk_shows : IsImage old.disk old.disk.shown) (sized : flash_need store.journal.geo ≤ length old.flash.stable)
@@ -44,7 +44,7 @@ module _ (print : List ℕ → Fp) (store : StoreView) (old new : World) (flash_
   pub kept_saving : Kept print store new c s
   kept_saving = kept_of print store new kept.rows c s sure kept.up
       (record {
-        means = still_means print store.journal old new kept.rows c (sure_of print store old flash_shows disk_shows c s kept) slot unlisted alters same_disk fits store.table store.count s is.fit (spare_unlisted store is slot spare) kept.holds.means;
+        means = means_still print store.journal old new slot alters same_disk fits store.table store.count s is.fit (spare_unlisted store is slot spare) kept.holds.means;
         laid = λ address is. ap (λ (d : Device). disk_block store.journal.geo d.shown address) same_disk ∙ kept.holds.laid address is;
       })
       kept.replayed kept.slots_kept
@@ -96,3 +96,18 @@ module _ (print : List ℕ → Fp) (store : StoreView) (old : World) (flash_show
 
   pub saved_kept : (new : World) → SavesSome slots slot old new → Kept print store new c s
   saved_kept new shows = once_saved print store old flash_shows disk_shows sized c s kept is slot spare new (by_slots (λ at n. ShowsSome Flash at n old new) shows)
+
+-- what a store holds behind a write of a slot that it may use, whatever is committed
+pub saved_holds : (print : List ℕ → Fp) (store : StoreView) (old new : World) (s : State) (is : IsStore store) (slots : SlotsView) → HasSlots store slots → slots_end slots ≤ length old.flash.stable
+    → (slot : ℕ) → use_of slots slot ≡ Some Free → SavesSome slots slot old new → Holds print store old s → Holds print store new s
+saved_holds print store old new s is slots has large slot free shows holds =
+    let spare : is_spare slot store.uses ≡ true = ap (is_spare slot) has.same ∙ ap is_free free in
+    let sized : flash_need store.journal.geo ≤ length old.flash.stable = omega (arith, slots_need store.journal.geo slots has.placed, large) in
+    let fits : slot_at store.journal.geo slot + store.journal.geo.block ≤ length old.flash.stable = omega (arith, slot_within store.journal.geo slot (spare_below store is slot spare), sized) in
+    let wrote : ShowsSome Flash (slot_at store.journal.geo slot) store.journal.geo.block old new =
+    subst (λ at. ShowsSome Flash at store.journal.geo.block old new) (slot_place store.journal.geo slots slot has.placed) (subst (λ n. ShowsSome Flash (slot_from slots slot) n old new) has.placed.size shows) in
+    let changed = alters_flash (slot_at store.journal.geo slot) store.journal.geo.block old new wrote in
+    record {
+      means = means_still print store.journal old new slot changed.0 changed.1 fits store.table store.count s is.fit (spare_unlisted store is slot spare) holds.means;
+      laid = λ address there. ap (λ (d : Device). disk_block store.journal.geo d.shown address) changed.1 ∙ holds.laid address there;
+    }

@@ -115,24 +115,26 @@ kept_of print store world rows c s sure up holds replayed used blocks = record {
   blocks_held = blocks;
 }
 
+-- rows that don't list a slot that changes mean what they meant
+module _ (print : List ℕ → Fp) (journal : JournalView) (old new : World) (slot : ℕ) (alters : Alters (slot_at journal.geo slot) journal.geo.block old.flash new.flash) (same_disk : new.disk ≡ old.disk)
+    (fits : slot_at journal.geo slot + journal.geo.block ≤ length old.flash.stable) where
+  other_slot : (table : Table) → has_slot slot table.b ≡ false → (listed : ℕ) → has_slot listed table.b ≡ true → LiesApart (slot_at journal.geo slot) journal.geo.block (slot_at journal.geo listed) journal.geo.block
+  other_slot table none listed is = slots_apart journal.geo slot listed (λ e. absurd (cc (is, none, ap (λ n. has_slot n table.b) e)))
+
+  pub means_still : (table : Table) (count : ℕ) (s : State) → RowsFit table → has_slot slot table.b ≡ false → Means print journal.geo old.flash.shown old.disk.shown table count s → Means print journal.geo new.flash.shown new.disk.shown table count s
+  means_still table count s fit none means = means_same journal.geo old.flash.shown old.disk.shown new.flash.shown new.disk.shown print table count s fit
+      (record {
+        slots = λ listed is. shown_stays (slot_at journal.geo slot) journal.geo.block old.flash new.flash alters fits (slot_at journal.geo listed) journal.geo.block (other_slot table none listed is);
+        blocks = λ address below clean. ap (λ (d : Device). disk_block journal.geo d.shown address) same_disk;
+      })
+      means
+
 -- a slot of the flash changes that the committed rows don't list
 module _ (print : List ℕ → Fp) (journal : JournalView) (old new : World) (rows : Table) (c : State) (sure : Sure print journal old rows c)
     (slot : ℕ) (unlisted : has_slot slot rows.b ≡ false) (alters : Alters (slot_at journal.geo slot) journal.geo.block old.flash new.flash) (same_disk : new.disk ≡ old.disk)
     (fits : slot_at journal.geo slot + journal.geo.block ≤ length old.flash.stable) where
-  other : (table : Table) → has_slot slot table.b ≡ false → (listed : ℕ) → has_slot listed table.b ≡ true → LiesApart (slot_at journal.geo slot) journal.geo.block (slot_at journal.geo listed) journal.geo.block
-  other table none listed is = slots_apart journal.geo slot listed (λ e. absurd (cc (is, none, ap (λ n. has_slot n table.b) e)))
-
   in_front : LiesApart (slot_at journal.geo slot) journal.geo.block (region_at journal.geo 0) (regions_size journal.geo)
   in_front = inl (regions_before journal.geo slot)
-
-  -- rows that don't list the slot mean what they meant
-  pub still_means : (table : Table) (count : ℕ) (s : State) → RowsFit table → has_slot slot table.b ≡ false → Means print journal.geo old.flash.shown old.disk.shown table count s → Means print journal.geo new.flash.shown new.disk.shown table count s
-  still_means table count s fit none means = means_same journal.geo old.flash.shown old.disk.shown new.flash.shown new.disk.shown print table count s fit
-      (record {
-        slots = λ listed is. shown_stays (slot_at journal.geo slot) journal.geo.block old.flash new.flash alters fits (slot_at journal.geo listed) journal.geo.block (other table none listed is);
-        blocks = λ address below clean. ap (λ (d : Device). disk_block journal.geo d.shown address) same_disk;
-      })
-      means
 
   says_still : (bytes : List ℕ) → IsImage new.flash bytes → SaysAs journal bytes rows
   says_still bytes image =
@@ -149,8 +151,8 @@ module _ (print : List ℕ → Fp) (journal : JournalView) (old new : World) (ro
       each = says_still;
     };
     fit = sure.fit;
-    slots = λ listed is. stable_stays (slot_at journal.geo slot) journal.geo.block old.flash new.flash alters fits (slot_at journal.geo listed) journal.geo.block (other rows unlisted listed is) (sure.slots listed is);
+    slots = λ listed is. stable_stays (slot_at journal.geo slot) journal.geo.block old.flash new.flash alters fits (slot_at journal.geo listed) journal.geo.block (other_slot print journal old new slot alters same_disk fits rows unlisted listed is) (sure.slots listed is);
     blocks = λ address below clean. subst (λ (d : Device). IsStablePart d (address * journal.geo.block) journal.geo.block) (sym same_disk) (sure.blocks address below clean);
-    means = still_means rows journal.committed c sure.fit unlisted sure.means;
+    means = means_still print journal old new slot alters same_disk fits rows journal.committed c sure.fit unlisted sure.means;
     size = subst (λ (d : Device). disk_need journal.geo ≤ length d.stable) (sym same_disk) sure.size;
   }

@@ -1,5 +1,5 @@
 -- A reference from its beginning to its end: what it waits for, what it leaves of the store, what it answers, and what it costs.
-use Rattle.std.specs.Prelude.{◌≡◌, ℕ, ◌<◌, not, ◌&&◌, ◌||◌, nat_le, Bool, true, false, List, length, Option, Some, None, Result, ⊤}
+use Rattle.std.specs.Prelude.{◌≡◌, ℕ, ◌<◌, not, ◌&&◌, ◌||◌, nat_le, Bool, true, false, List, length, Option, Some, None, Result, ⊤, if◌then◌else◌}
 use Rattle.std.specs.List.{list_any}
 use Rattle.dd_block.specs.declared.geometry.Geometry.{Geometry}
 use Rattle.dd_block.specs.declared.print.Fp.{Fp}
@@ -14,6 +14,7 @@ use Rattle.dd_record.specs.declared.rec.Rec.TheVariants.{Store}
 use Rattle.dd_record.specs.declared.row.Link.{Link}
 use Rattle.dd_record.specs.declared.row.Link.TheVariants as links
 use Rattle.dd_record.specs.Replay.{Touch}
+use Rattle.dd_record.specs.Table.{is_dirty_at}
 use Rattle.dd_model.specs.declared.done.Cut.{Cut}
 use Rattle.dd_model.specs.declared.done.Done.{Done}
 use Rattle.dd_model.specs.declared.given.Block.TheVariants.{Fresh}
@@ -23,7 +24,7 @@ use Rattle.dd_model.specs.declared.kind.Kind.{Kind}
 use Rattle.dd_model.specs.declared.kind.Kind.TheVariants as kind
 use Rattle.dd_model.specs.Listing.{is_fresh, touch_by, cut_of}
 use Rattle.dd_model.specs.Reference.{Answer, read_answer, write_answer}
-use Rattle.dd_model.specs.State.{Sizes, State, content, is_known}
+use Rattle.dd_model.specs.State.{Sizes, State, content, is_known, is_at_hand}
 use Rattle.dd_store.specs.Keeping.{StoreView, is_spare}
 use Rattle.dd_store.specs.Referring.{IsThere, IsPlaced, RecordFits, referred_store, done_of, listing_in}
 use Rattle.dd_store.specs.Rounds.{Cleans, HasRoom}
@@ -54,6 +55,7 @@ pub record Carries (print : List ℕ → Fp) (store : StoreView) (flash : List �
 pub record References (address : ℕ) (dirty : Bool) (old new : StoreView) (done : Done) : Type 0 where
   pub middle : StoreView
   pub cleans : Cleans old middle
+  pub own : is_dirty_at address middle.table.a ≡ is_dirty_at address old.table.a
   pub its : Rec
   pub touch : Touch
   pub fits : RecordFits middle its touch
@@ -74,6 +76,10 @@ want_for kind.Join = wants.Zero
 want_for kind.Miss = wants.Fresh
 want_for kind.Dup = wants.Zero
 want_for kind.New = wants.Fresh
+
+-- what is wanted of a block by the state: a slot of its own where it isn't at hand
+abbrev pub want_by : List ℕ → List (List ℕ) → Want
+want_by block blocks = if is_at_hand block blocks then wants.Zero else wants.Fresh
 
 -- a fault of a read, behind which the store is up
 abbrev pub IsReadFault : StoreFault → Type 0
@@ -96,6 +102,18 @@ saves kind.Join = 0
 saves kind.Miss = 1
 saves kind.Dup = 0
 saves kind.New = 1
+
+-- nothing fell off both lists
+abbrev pub IsCalm : Cut → Type 0
+IsCalm cut = (cut.out ≡ None) × (cut.drop ≡ None)
+
+-- how many reads of the disk a read of this kind makes, where nothing falls off
+abbrev pub fetches : Kind → ℕ
+fetches kind.Hit = 0
+fetches kind.Join = 1
+fetches kind.Miss = 1
+fetches kind.Dup = 1
+fetches kind.New = 1
 
 -- whether a reference of such a block has to wait for a commit: there is no room for its record, or no free slot for its block
 abbrev pub must_commit : Want → StoreView → Bool

@@ -1,6 +1,7 @@
 -- What holds between a store and a rig: the state that the store holds, and the one that is committed.
 use Rattle.std.specs.Prelude.{◌≡◌, ◌⊎◌, ℕ, ◌*◌, ◌<◌, ◌≤◌, ◌==◌, Bool, true, false, List, [], length, Some, IsTrue, slice_get, ⊤}
 use Rattle.std.specs.List.{AllByRecursion, IsDistinct}
+use Rattle.dd_block.specs.Bytes.{part}
 use Rattle.dd_block.specs.declared.print.Fp.{Fp}
 use Rattle.dd_block.specs.declared.geometry.Geometry.{Geometry}
 use Rattle.dd_block.specs.Geometry.{slot_count}
@@ -49,6 +50,10 @@ AllStand print world s = (flash disk : List ℕ) → IsImage world.flash flash �
 pub record Holds (print : List ℕ → Fp) (store : StoreView) (world : World) (s : State) : Type 0 where
   pub means : Means print store.journal.geo world.flash.shown world.disk.shown store.table store.count s
   pub laid : (address : ℕ) → is_among address store.laid ≡ true → disk_block store.journal.geo world.disk.shown address ≡ content s.array address
+
+-- the bytes of all slots, as the flash shows them
+abbrev pub slots_shown : Geometry → World → List ℕ
+slots_shown geo world = part world.flash.shown (slot_at geo 0) (slot_count geo * geo.block)
 
 -- a slot of the flash, and a block of the disk, that no crash changes
 abbrev pub IsStableSlot : Geometry → World → ℕ → Type 0

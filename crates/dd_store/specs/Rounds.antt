@@ -1,7 +1,8 @@
 -- Rounds of write-back: which addresses they make clean, what they cost, and what a reference has room for behind them.
-use Rattle.std.specs.Prelude.{◌≡◌, ℕ, ◌+◌, ◌*◌, ◌≤◌, Bool, false, List, length, Result, Ok, Err, None, IfSome, is_some}
+use Rattle.std.specs.Prelude.{◌≡◌, ℕ, ◌+◌, ◌*◌, ◌≤◌, Bool, false, List, length, Result, Ok, Err, None, IfSome, is_some, ⊤}
 use Rattle.std.specs.List.{list_any}
 use Rattle.dd_rig.specs.declared.tallies.Calls.{Calls}
+use Rattle.dd_slots.specs.Numbers.{is_among}
 use Rattle.dd_record.specs.Table.{is_dirty_at}
 use Rattle.dd_model.specs.declared.given.Want.{Want}
 use Rattle.dd_model.specs.Listing.{victims_of, refers, without, next_of}
@@ -37,6 +38,16 @@ pub record HasRoom (address : ℕ) (want : Want) (store : StoreView) : Type 0 wh
 abbrev pub walk_of : Along → List ℕ → (ℕ → List ℕ) → List ℕ
 walk_of Age dirty referrers = dirty
 walk_of (Referrers slot skip) dirty referrers = without skip (referrers slot)
+
+-- a walk along referrers passes over its address
+abbrev pub PassesOver : Along → List ℕ → Type 0
+PassesOver Age laid = ⊤
+PassesOver (Referrers slot skip) laid = is_among skip laid ≡ false
+
+-- so that is as dirty as it was
+abbrev pub KeepsSkipped : Along → (old new : StoreView) → Type 0
+KeepsSkipped Age old new = ⊤
+KeepsSkipped (Referrers slot skip) old new = is_dirty_at skip new.table.a ≡ is_dirty_at skip old.table.a
 
 -- whether a walk has an address
 abbrev pub has_along : Along → StoreView → Bool

@@ -9,7 +9,7 @@ ghost use Rattle.dd_layout.specs.Layout.{region_at, flash_need};
 ghost use Rattle.dd_model.specs.State.{State};
 ghost use Rattle.dd_journal.specs.Regions.{snapshot_size};
 ghost use Rattle.dd_journal.specs.Sitting.{MayCommit, regions_size};
-ghost use Rattle.dd_store.specs.Keeping.{StoreView, IsStore, Holds, Kept};
+ghost use Rattle.dd_store.specs.Keeping.{StoreView, IsStore, Holds, Kept, slots_shown};
 ghost use Rattle.dd_store.specs.Committing.{StandForEither, AllStandForEither, with_parts, committed_store};
 
 use dd_journal::Journal;
@@ -55,6 +55,7 @@ pub fn commit_rows<R: Rig, L: Lists>(
     ensures geometry { journal.new.geo ≡ journal.old.geo }
     ensures version { journal.new.version ≡ journal.old.version }
     ensures outside { R.tells → LeavesShown Flash (region_at journal.old.geo 0) (regions_size journal.old.geo) (R.world rig.old) (R.world rig.new) }
+    ensures slots { R.tells → slots_shown journal.old.geo (R.world rig.new) ≡ slots_shown journal.old.geo (R.world rig.old) }
     ensures cause { OnErr result (Rose (R.counts rig.old).flash.failed_writes (R.counts rig.new).flash.failed_writes) }
     ensures calls { 48 * length pending.now + 6 ≤ journal.old.room
         → Makes (up_to 0 4 (48 * length pending.now + 6)) nothing (R.counts rig.old) (R.counts rig.new) }

@@ -44,6 +44,7 @@ pub fn lay_block<R: Rig>(
     ensures holds_laid { R.tells → (print : List ℕ → Fp) (store : StoreView) (s : State) → store.journal.geo ≡ geo → IsStore store → MayLay store address → Holds print store (R.world rig.old) s
         → from.now ≡ content s.array address → OnOk result (Holds print (laid_store address store) (R.world rig.new) s) }
     ensures unsaid { R.tells → Elapses (R.clock rig.old) (R.clock rig.new) (λ o. o.out ≡ (R.world rig.old).said) }
+    ensures flash { R.tells → (R.world rig.new).flash ≡ (R.world rig.old).flash }
     ensures said { R.tells → (R.world rig.new).said ≡ (R.world rig.old).said }
     ensures counts { R.counts rig.new ≡ count_write Disk geo.block result (R.counts rig.old) }
     ensures cause { OnErr result (Rose (R.counts rig.old).disk.failed_writes (R.counts rig.new).disk.failed_writes) }
@@ -59,6 +60,7 @@ pub fn sync_laid<R: Rig>(rig: &mut R) -> Result<(), Failed>
     ensures marked { R.tells → (print : List ℕ → Fp) (store : StoreView) (s : State) → IsStore store → store.pending ≡ [] → Kept print store (R.world rig.old) s s
         → OnOk result (Kept print (marked_store store) (R.world rig.new) s s) }
     ensures holds { R.tells → (print : List ℕ → Fp) (store : StoreView) (s : State) → Holds print store (R.world rig.old) s → OnOk result (Holds print (marked_store store) (R.world rig.new) s) }
+    ensures flash { R.tells → (R.world rig.new).flash ≡ (R.world rig.old).flash }
     ensures said { R.tells → (R.world rig.new).said ≡ (R.world rig.old).said }
     ensures counts { R.counts rig.new ≡ count_sync Disk result (R.counts rig.old) }
     ensures cause { OnErr result (Rose (R.counts rig.old).disk.failed_writes (R.counts rig.new).disk.failed_writes) }
@@ -93,6 +95,7 @@ pub fn lay_row<R: Rig>(
     ensures holds_laid { R.tells → (print : List ℕ → Fp) (store : StoreView) (s : State) → store.journal.geo ≡ geo → IsStore store → MayLayRow store row → Holds print store (R.world rig.old) s
         → OnOk result (Holds print (laid_store row.address store) (R.world rig.new) s) }
     ensures unsaid { R.tells → Elapses (R.clock rig.old) (R.clock rig.new) (λ o. o.out ≡ (R.world rig.old).said) }
+    ensures flash { R.tells → (R.world rig.new).flash ≡ (R.world rig.old).flash }
     ensures said { R.tells → (R.world rig.new).said ≡ (R.world rig.old).said }
     ensures fault { IfErr result IsLayFault }
     ensures cause { IfErr result (λ fault. Faulted fault (R.counts rig.old) (R.counts rig.new)) }
@@ -139,6 +142,7 @@ fn lay_slot<R: Rig>(
     ensures holds_laid { R.tells → (print : List ℕ → Fp) (store : StoreView) (s : State) → store.journal.geo ≡ geo → IsStore store → MayLay store address → Holds print store (R.world rig.old) s
         → block_in slots.now (R.world rig.old).flash.shown slot ≡ content s.array address → OnOk result (Holds print (laid_store address store) (R.world rig.new) s) }
     ensures unsaid { R.tells → Elapses (R.clock rig.old) (R.clock rig.new) (λ o. o.out ≡ (R.world rig.old).said) }
+    ensures flash { R.tells → (R.world rig.new).flash ≡ (R.world rig.old).flash }
     ensures said { R.tells → (R.world rig.new).said ≡ (R.world rig.old).said }
     ensures fault { IfErr result IsLayFault }
     ensures cause { IfErr result (λ fault. Faulted fault (R.counts rig.old) (R.counts rig.new)) }

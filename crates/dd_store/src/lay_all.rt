@@ -48,6 +48,7 @@ fn lay_address<R: Rig, L: Lists>(
     ensures holds_laid { R.tells → (print : List ℕ → Fp) (store : StoreView) (s : State) → store.journal.geo ≡ geo → store.table ≡ (L.listing lists.now).table → IsStore store → MayLay store address
         → Holds print store (R.world rig.old) s → OnOk result (Holds print (laid_store address store) (R.world rig.new) s) }
     ensures unsaid { R.tells → Elapses (R.clock rig.old) (R.clock rig.new) (λ o. o.out ≡ (R.world rig.old).said) }
+    ensures flash { R.tells → (R.world rig.new).flash ≡ (R.world rig.old).flash }
     ensures said { R.tells → (R.world rig.new).said ≡ (R.world rig.old).said }
     ensures fault { IfErr result IsLayFault }
     ensures cause { IfErr result (λ fault. Faulted fault (R.counts rig.old) (R.counts rig.new)) }
@@ -87,6 +88,7 @@ pub(crate) fn lay_all<R: Rig, L: Lists>(
     ensures holds_laid { R.tells → (print : List ℕ → Fp) (store : StoreView) (s : State) → store.journal.geo ≡ geo → store.table ≡ (L.listing lists.now).table → IsStore store → MayLayAll store addresses.now
         → Holds print store (R.world rig.old) s → OnOk result (Holds print (all_laid addresses.now store) (R.world rig.new) s) }
     ensures unsaid { R.tells → Elapses (R.clock rig.old) (R.clock rig.new) (λ o. o.out ≡ (R.world rig.old).said) }
+    ensures flash { R.tells → (R.world rig.new).flash ≡ (R.world rig.old).flash }
     ensures said { R.tells → (R.world rig.new).said ≡ (R.world rig.old).said }
     ensures fault { IfErr result IsLayFault }
     ensures cause { IfErr result (λ fault. Faulted fault (R.counts rig.old) (R.counts rig.new)) }

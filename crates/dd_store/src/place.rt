@@ -8,7 +8,7 @@ ghost use Rattle.dd_rig.specs.Counts.{Frame, Makes, up_to, nothing, Rose};
 ghost use Rattle.dd_slots.specs.Slots.{Takes, slots_end, block_in};
 ghost use Rattle.dd_model.specs.State.{State};
 ghost use Rattle.dd_store.specs.Meaning.{Stands};
-ghost use Rattle.dd_store.specs.Keeping.{StoreView, IsStore, Kept};
+ghost use Rattle.dd_store.specs.Keeping.{StoreView, IsStore, Holds, Kept};
 ghost use Rattle.dd_store.specs.Saving.{AreSlotsOf, HasSlots};
 
 use dd_rig::{Failed, Rig};
@@ -31,6 +31,8 @@ pub fn place_block<R: Rig>(
         → Elapses (R.clock rig.old) (R.clock rig.new) (λ o. Stands print o.flash o.disk c) }
     ensures kept { R.tells → (print : List ℕ → Fp) (store : StoreView) (c s : State) → HasSlots store slots.old → IsStore store → Kept print store (R.world rig.old) c s
         → Kept print store (R.world rig.new) c s }
+    ensures holds { R.tells → (print : List ℕ → Fp) (store : StoreView) (s : State) → HasSlots store slots.old → IsStore store → Holds print store (R.world rig.old) s
+        → Holds print store (R.world rig.new) s }
     ensures unsaid { R.tells → Elapses (R.clock rig.old) (R.clock rig.new) (λ o. o.out ≡ (R.world rig.old).said) }
     ensures said { R.tells → (R.world rig.new).said ≡ (R.world rig.old).said }
     ensures calls { Makes (up_to 0 1 slots.old.block) nothing (R.counts rig.old) (R.counts rig.new) }

@@ -9,7 +9,7 @@ ghost use Rattle.dd_journal.specs.Regions.{AreRows, snapshot_size};
 ghost use Rattle.dd_journal.specs.Sitting.{Sits, IsStable};
 ghost use Rattle.dd_store.specs.Meaning.{Means};
 ghost use Rattle.dd_store.specs.declared.fault.StoreFault.TheVariants.{FlashRead, DiskRead, FlashWrite, DiskWrite};
-ghost use Rattle.dd_store.specs.Keeping.{IsStore, Holds, Kept};
+ghost use Rattle.dd_store.specs.Keeping.{IsStore, Holds, Kept, slots_shown};
 ghost use Rattle.dd_store.specs.Committing.{committed_store};
 ghost use Rattle.dd_store.specs.Laying.{MayLay, marked_store};
 ghost use Rattle.dd_store.specs.Saving.{AreUsesOf};
@@ -137,6 +137,7 @@ impl<F: Fingerprint, L: Lists> Store<F, L> {
         ensures holds { R.tells → (s : State) → Holds (F.printed self.old.print) self.old.store (R.world rig.old) s
             → HoldsThen (F.printed self.old.print) result s s self.new.store (R.world rig.new) }
         ensures unsaid { R.tells → Elapses (R.clock rig.old) (R.clock rig.new) (λ o. o.out ≡ (R.world rig.old).said) }
+        ensures slots { R.tells → slots_shown self.old.store.journal.geo (R.world rig.new) ≡ slots_shown self.old.store.journal.geo (R.world rig.old) }
         ensures said { R.tells → (R.world rig.new).said ≡ (R.world rig.old).said }
         ensures store { OnOk result (self.new.store ≡ committed_store (unlaid self.old.store) self.new.store.journal) }
         ensures journal { OnOk result (self.new.store.journal.committed ≡ self.old.store.count) }
@@ -219,6 +220,7 @@ impl<F: Fingerprint, L: Lists> Store<F, L> {
         ensures holds { R.tells → (s : State) → Holds (F.printed self.old.print) self.old.store (R.world rig.old) s
             → HoldsThen (F.printed self.old.print) result s s self.new.store (R.world rig.new) }
         ensures unsaid { R.tells → Elapses (R.clock rig.old) (R.clock rig.new) (λ o. o.out ≡ (R.world rig.old).said) }
+        ensures flash { R.tells → (R.world rig.new).flash ≡ (R.world rig.old).flash }
         ensures said { R.tells → (R.world rig.new).said ≡ (R.world rig.old).said }
         ensures store { LaysOn result address self.old.store self.new.store }
         ensures print { self.new.print ≡ self.old.print }
@@ -259,6 +261,7 @@ impl<F: Fingerprint, L: Lists> Store<F, L> {
         ensures holds { R.tells → (s : State) → Holds (F.printed self.old.print) self.old.store (R.world rig.old) s
             → HoldsThen (F.printed self.old.print) result s s self.new.store (R.world rig.new) }
         ensures unsaid { R.tells → Elapses (R.clock rig.old) (R.clock rig.new) (λ o. o.out ≡ (R.world rig.old).said) }
+        ensures flash { R.tells → (R.world rig.new).flash ≡ (R.world rig.old).flash }
         ensures said { R.tells → (R.world rig.new).said ≡ (R.world rig.old).said }
         ensures ok { OnOk result (self.new.store ≡ marked_store self.old.store) }
         ensures fewer { OnOk result (length self.new.store.dirty + length self.old.store.laid ≡ length self.old.store.dirty) }

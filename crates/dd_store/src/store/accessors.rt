@@ -1,10 +1,15 @@
 // What a store tells without a call of a device.
-ghost use Rattle.std.specs.Prelude.{◌≡◌, length};
+ghost use Rattle.std.specs.Prelude.{◌≡◌, ◌⊎◌, length};
+ghost use Rattle.dd_rig.specs.World.{World};
+ghost use Rattle.dd_model.specs.Alignment.{Aligned};
+ghost use Rattle.dd_model.specs.Orphans.{orphans_of, orphaned_addresses, orphaned_blocks};
+ghost use Rattle.dd_model.specs.State.{State};
 ghost use Rattle.dd_slots.specs.Numbers.{is_among};
+ghost use Rattle.dd_store.specs.Keeping.{Holds};
 
 use super::Store;
 use dd_block::{Fingerprint, Fp, Geometry};
-use dd_model::Lists;
+use dd_model::{Lists, Orphans};
 
 impl<F: Fingerprint, L: Lists> Store<F, L> {
     /// Whether the store may be called. It is down for ever after a write or a sync that failed.
@@ -69,6 +74,17 @@ impl<F: Fingerprint, L: Lists> Store<F, L> {
         ensures dirty { (L.listing result.now).dirty ≡ self.now.store.dirty }
     {
         &self.lists
+    }
+
+    /// How many listed addresses aren't linked, and how many listed blocks no address is linked to: those
+    /// of the state that the store holds. Where both lists go together one of the two is 0. It calls no
+    /// device and takes no memory; its cost is that of the lists' `orphans`.
+    pub fn orphans(&self) -> Orphans
+        ensures table { result ≡ orphans_of self.now.store.table }
+        ensures state { (world : World) (s : State) → Holds (F.printed self.now.print) self.now.store world s → result ≡ record { a = orphaned_addresses s; b = orphaned_blocks s } }
+        ensures aligned { (world : World) (s : State) → Holds (F.printed self.now.print) self.now.store world s → Aligned self.now.store.journal.geo.bcap s → (result.a ≡ 0) ⊎ (result.b ≡ 0) }
+    {
+        self.lists.orphans()
     }
 
     /// The fingerprint of these bytes, by what the store was made with.

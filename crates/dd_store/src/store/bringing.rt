@@ -6,9 +6,9 @@ ghost use Rattle.dd_rig.specs.Counts.{Frame, Makes, CalledAtMost, up_to, nothing
 ghost use Rattle.dd_layout.specs.Layout.{slot_block, flash_need};
 ghost use Rattle.dd_record.specs.declared.row.Link.TheVariants.{Lost};
 ghost use Rattle.dd_record.specs.Spelling.{IsRec};
-ghost use Rattle.dd_record.specs.Table.{link_at};
+ghost use Rattle.dd_record.specs.Table.{is_dirty_at, link_at};
 ghost use Rattle.dd_record.specs.Replay.{touch_of, raises};
-ghost use Rattle.dd_model.specs.declared.kind.Kind.TheVariants.{Miss, New};
+ghost use Rattle.dd_model.specs.declared.kind.Kind.TheVariants.{Hit, Miss, New, Dup};
 ghost use Rattle.dd_model.specs.declared.given.Want.TheVariants.{Fresh as FreshBlock};
 ghost use Rattle.dd_model.specs.declared.given.Block.TheVariants.{Known as KnownBlock};
 ghost use Rattle.dd_model.specs.Confirming.{candidates};
@@ -17,11 +17,11 @@ ghost use Rattle.dd_model.specs.Reference.{reference, Tells};
 ghost use Rattle.dd_model.specs.State.{State, content, is_zero_block, is_known};
 ghost use Rattle.dd_store.specs.declared.fault.StoreFault.TheVariants.{FlashRead, DiskRead, FlashWrite};
 ghost use Rattle.dd_store.specs.Meaning.{sizes_of};
-ghost use Rattle.dd_store.specs.Keeping.{IsStore, Holds, Kept};
+ghost use Rattle.dd_store.specs.Keeping.{IsStore, Holds, Kept, slots_shown};
 ghost use Rattle.dd_store.specs.Referring.{listing_in, is_fresh_block, kind_of};
 ghost use Rattle.dd_store.specs.Rounds.{Cleans, HasRoom, LoadsAtMost};
-ghost use Rattle.dd_store.specs.Bringing.{IsPrepared, must_commit, Carries, References, FoundAs, answer_for, want_for, saves, IsReadFault};
-ghost use Rattle.dd_store.specs.Serving.{IsReady, MayCall, Serves, StaysUp, Faulted, GrowsLittle, unlaid};
+ghost use Rattle.dd_store.specs.Bringing.{IsPrepared, must_commit, Carries, References, FoundAs, answer_for, want_for, saves, IsReadFault, want_by};
+ghost use Rattle.dd_store.specs.Serving.{IsReady, MayCall, Serves, HoldsThen, StaysUp, Faulted, GrowsLittle, unlaid};
 
 use super::Store;
 use crate::StoreFault;
@@ -47,9 +47,13 @@ impl<F: Fingerprint, L: Lists> Store<F, L> {
         requires anew { (dirty ≡ true) ⊎ (link_at address self.old.store.table.a ≡ Lost) }
         ensures serves { R.tells → (c s : State) → Kept (F.printed self.old.print) self.old.store (R.world rig.old) c s → (dirty ≡ false → block.now ≡ content s.array address)
             → Serves (F.printed self.old.print) result (R.clock rig.old) (R.clock rig.new) self.new.store (R.world rig.new) c s (reference (sizes_of self.old.store.journal.geo) s address block.now) }
-        ensures tells { R.tells → (c s : State) → Kept (F.printed self.old.print) self.old.store (R.world rig.old) c s → (dirty ≡ false → block.now ≡ content s.array address)
+        ensures tells { R.tells → (s : State) → Holds (F.printed self.old.print) self.old.store (R.world rig.old) s → (dirty ≡ false → block.now ≡ content s.array address)
             → IfOk result (λ done. Tells (F.printed self.old.print) done (answer_for dirty (sizes_of self.old.store.journal.geo) s address block.now)) }
+        ensures no_hit { IfOk result (λ done. done.kind ≢ Hit) }
+        ensures holds { R.tells → (s : State) → Holds (F.printed self.old.print) self.old.store (R.world rig.old) s → (dirty ≡ false → block.now ≡ content s.array address)
+            → HoldsThen (F.printed self.old.print) result s (reference (sizes_of self.old.store.journal.geo) s address block.now) self.new.store (R.world rig.new) }
         ensures unsaid { R.tells → Elapses (R.clock rig.old) (R.clock rig.new) (λ o. o.out ≡ (R.world rig.old).said) }
+        ensures dup_slots { R.tells → IfOk result (λ done. done.kind ≡ Dup → slots_shown self.old.store.journal.geo (R.world rig.new) ≡ slots_shown self.old.store.journal.geo (R.world rig.old)) }
         ensures said { R.tells → (R.world rig.new).said ≡ (R.world rig.old).said }
         ensures rows { IfOk result (References address dirty self.old.store self.new.store) }
         ensures failed { IfErr result (λ fault. IsReadFault fault → Cleans self.old.store self.new.store) }
@@ -57,6 +61,8 @@ impl<F: Fingerprint, L: Lists> Store<F, L> {
             → Makes (up_to (candidates (F.printed self.old.print block.now) self.old.store.table.b) (saves done.kind) (saves done.kind * self.old.store.journal.geo.block)) nothing (R.counts rig.old) (R.counts rig.new)) }
         ensures disk { IfOk result (λ done. HasRoom address (want_for done.kind) self.old.store → CalledAtMost nothing (R.counts rig.old).disk (R.counts rig.new).disk) }
         ensures idle { HasRoom address FreshBlock self.old.store → CalledAtMost nothing (R.counts rig.old).disk (R.counts rig.new).disk }
+        ensures idle_held { R.tells → (s : State) → Holds (F.printed self.old.print) self.old.store (R.world rig.old) s → HasRoom address (want_by block.now s.blocks) self.old.store
+            → CalledAtMost nothing (R.counts rig.old).disk (R.counts rig.new).disk }
         ensures loads { OnOk result (LoadsAtMost (if dirty then 2 else 0) self.old.store self.new.store (R.counts rig.old).disk (R.counts rig.new).disk) }
         ensures reads { (R.counts rig.new).disk.reads ≤ (R.counts rig.old).disk.reads }
         ensures fault { IfErr result (λ fault. fault ≢ DiskRead) }
@@ -147,11 +153,15 @@ impl<F: Fingerprint, L: Lists> Store<F, L> {
         ensures serves { R.tells → (c s : State) → Kept (F.printed self.old.print) self.old.store (R.world rig.old) c s → (bytes : List ℕ)
             → Carries (F.printed self.old.print) self.old.store (R.world rig.old).flash.shown s (touch_by address block dirty (listing_in self.old.store)) bytes
             → Serves (F.printed self.old.print) result (R.clock rig.old) (R.clock rig.new) self.new.store (R.world rig.new) c s (reference (sizes_of self.old.store.journal.geo) s address bytes) }
-        ensures tells { R.tells → (c s : State) → Kept (F.printed self.old.print) self.old.store (R.world rig.old) c s → (bytes : List ℕ)
+        ensures tells { R.tells → (s : State) → Holds (F.printed self.old.print) self.old.store (R.world rig.old) s → (bytes : List ℕ)
             → Carries (F.printed self.old.print) self.old.store (R.world rig.old).flash.shown s (touch_by address block dirty (listing_in self.old.store)) bytes
             → kind_of its ≡ (answer_for dirty (sizes_of self.old.store.journal.geo) s address bytes).kind
             → IfOk result (λ done. Tells (F.printed self.old.print) done (answer_for dirty (sizes_of self.old.store.journal.geo) s address bytes)) }
+        ensures holds { R.tells → (s : State) → Holds (F.printed self.old.print) self.old.store (R.world rig.old) s → (bytes : List ℕ)
+            → Carries (F.printed self.old.print) self.old.store (R.world rig.old).flash.shown s (touch_by address block dirty (listing_in self.old.store)) bytes
+            → HoldsThen (F.printed self.old.print) result s (reference (sizes_of self.old.store.journal.geo) s address bytes) self.new.store (R.world rig.new) }
         ensures unsaid { R.tells → Elapses (R.clock rig.old) (R.clock rig.new) (λ o. o.out ≡ (R.world rig.old).said) }
+        ensures slots { R.tells → slots_shown self.old.store.journal.geo (R.world rig.new) ≡ slots_shown self.old.store.journal.geo (R.world rig.old) }
         ensures said { R.tells → (R.world rig.new).said ≡ (R.world rig.old).said }
         ensures kind { IfOk result (λ done. done.kind ≡ kind_of its) }
         ensures rows { IfOk result (References address dirty self.old.store self.new.store) }
@@ -193,9 +203,12 @@ impl<F: Fingerprint, L: Lists> Store<F, L> {
         ensures serves { R.tells → (c s : State) → Kept (F.printed self.old.print) self.old.store (R.world rig.old) c s → fp ≡ F.printed self.old.print block.now
             → is_zero_block block.now ≡ false → is_known block.now s.blocks ≡ false → (dirty ≡ false → block.now ≡ content s.array address)
             → Serves (F.printed self.old.print) result (R.clock rig.old) (R.clock rig.new) self.new.store (R.world rig.new) c s (reference (sizes_of self.old.store.journal.geo) s address block.now) }
-        ensures tells { R.tells → (c s : State) → Kept (F.printed self.old.print) self.old.store (R.world rig.old) c s → fp ≡ F.printed self.old.print block.now
+        ensures tells { R.tells → (s : State) → Holds (F.printed self.old.print) self.old.store (R.world rig.old) s → fp ≡ F.printed self.old.print block.now
             → is_zero_block block.now ≡ false → is_known block.now s.blocks ≡ false → (dirty ≡ false → block.now ≡ content s.array address)
             → IfOk result (λ done. Tells (F.printed self.old.print) done (answer_for dirty (sizes_of self.old.store.journal.geo) s address block.now)) }
+        ensures holds { R.tells → (s : State) → Holds (F.printed self.old.print) self.old.store (R.world rig.old) s → fp ≡ F.printed self.old.print block.now
+            → is_zero_block block.now ≡ false → is_known block.now s.blocks ≡ false → (dirty ≡ false → block.now ≡ content s.array address)
+            → HoldsThen (F.printed self.old.print) result s (reference (sizes_of self.old.store.journal.geo) s address block.now) self.new.store (R.world rig.new) }
         ensures unsaid { R.tells → Elapses (R.clock rig.old) (R.clock rig.new) (λ o. o.out ≡ (R.world rig.old).said) }
         ensures said { R.tells → (R.world rig.new).said ≡ (R.world rig.old).said }
         ensures kind { IfOk result (λ done. done.kind ≡ (if dirty then New else Miss)) }
@@ -231,9 +244,13 @@ impl<F: Fingerprint, L: Lists> Store<F, L> {
         requires { MayCall self.old.store (R.device_size rig.old) }
         ensures serves { R.tells → (c s : State) → Kept (F.printed self.old.print) self.old.store (R.world rig.old) c s
             → Serves (F.printed self.old.print) result (R.clock rig.old) (R.clock rig.new) self.new.store (R.world rig.new) c s s }
+        ensures holds { R.tells → (s : State) → Holds (F.printed self.old.print) self.old.store (R.world rig.old) s
+            → HoldsThen (F.printed self.old.print) result s s self.new.store (R.world rig.new) }
         ensures unsaid { R.tells → Elapses (R.clock rig.old) (R.clock rig.new) (λ o. o.out ≡ (R.world rig.old).said) }
+        ensures slots { R.tells → slots_shown self.old.store.journal.geo (R.world rig.new) ≡ slots_shown self.old.store.journal.geo (R.world rig.old) }
         ensures said { R.tells → (R.world rig.new).said ≡ (R.world rig.old).said }
         ensures ready { OnOk result (IsPrepared address want self.new.store) }
+        ensures own { OnOk result (is_dirty_at address self.new.store.table.a ≡ is_dirty_at address self.old.store.table.a) }
         ensures rows { OnOk result (Cleans self.old.store self.new.store) }
         ensures failed { IfErr result (λ fault. IsReadFault fault → Cleans self.old.store self.new.store) }
         ensures at_once { IsPrepared address want self.old.store → IsOk result × (rig.new ≡ rig.old) × (self.new.store ≡ unlaid self.old.store) }

@@ -15,10 +15,10 @@ ghost use Rattle.dd_model.specs.Reference.{reference, Tells};
 ghost use Rattle.dd_model.specs.State.{State, content, is_zero_block, is_known};
 ghost use Rattle.dd_store.specs.declared.fault.StoreFault.TheVariants.{FlashWrite};
 ghost use Rattle.dd_store.specs.Meaning.{sizes_of};
-ghost use Rattle.dd_store.specs.Keeping.{IsStore, Kept};
+ghost use Rattle.dd_store.specs.Keeping.{IsStore, Holds, Kept};
 ghost use Rattle.dd_store.specs.Referring.{RecordFits, referred_store, listing_in, is_fresh_block};
 ghost use Rattle.dd_store.specs.Bringing.{IsPrepared, Enters, answer_for};
-ghost use Rattle.dd_store.specs.Serving.{Serves, StaysUp, Faulted};
+ghost use Rattle.dd_store.specs.Serving.{Serves, HoldsThen, StaysUp, Faulted};
 
 use super::Store;
 use crate::StoreFault;
@@ -79,9 +79,12 @@ impl<F: Fingerprint, L: Lists> Store<F, L> {
         ensures serves { R.tells → (c s : State) → Kept (F.printed self.old.print) self.old.store (R.world rig.old) c s → fp ≡ F.printed self.old.print block.now
             → is_zero_block block.now ≡ false → is_known block.now s.blocks ≡ false → (dirty ≡ false → block.now ≡ content s.array address)
             → Serves (F.printed self.old.print) result (R.clock rig.old) (R.clock rig.new) self.new.store (R.world rig.new) c s (reference (sizes_of self.old.store.journal.geo) s address block.now) }
-        ensures tells { R.tells → (c s : State) → Kept (F.printed self.old.print) self.old.store (R.world rig.old) c s → fp ≡ F.printed self.old.print block.now
+        ensures tells { R.tells → (s : State) → Holds (F.printed self.old.print) self.old.store (R.world rig.old) s → fp ≡ F.printed self.old.print block.now
             → is_zero_block block.now ≡ false → is_known block.now s.blocks ≡ false → (dirty ≡ false → block.now ≡ content s.array address)
             → IfOk result (λ cut. Tells (F.printed self.old.print) (record { kind = if dirty then New else Miss; cut = cut }) (answer_for dirty (sizes_of self.old.store.journal.geo) s address block.now)) }
+        ensures holds { R.tells → (s : State) → Holds (F.printed self.old.print) self.old.store (R.world rig.old) s → fp ≡ F.printed self.old.print block.now
+            → is_zero_block block.now ≡ false → is_known block.now s.blocks ≡ false → (dirty ≡ false → block.now ≡ content s.array address)
+            → HoldsThen (F.printed self.old.print) result s (reference (sizes_of self.old.store.journal.geo) s address block.now) self.new.store (R.world rig.new) }
         ensures unsaid { R.tells → Elapses (R.clock rig.old) (R.clock rig.new) (λ o. o.out ≡ (R.world rig.old).said) }
         ensures said { R.tells → (R.world rig.new).said ≡ (R.world rig.old).said }
         ensures rows { IfOk result (Enters address fp dirty self.old.store self.new.store) }

@@ -4,8 +4,8 @@ ghost use Rattle.dd_rig.specs.Clock.{Elapses};
 ghost use Rattle.dd_rig.specs.Counts.{Frame};
 ghost use Rattle.dd_model.specs.State.{State};
 ghost use Rattle.dd_store.specs.declared.fault.StoreFault.TheVariants.{FlashRead, DiskRead};
-ghost use Rattle.dd_store.specs.Keeping.{Holds, Kept};
-ghost use Rattle.dd_store.specs.Rounds.{Cleans, LoadsAtMost, LaysSome, has_along};
+ghost use Rattle.dd_store.specs.Keeping.{Holds, Kept, slots_shown};
+ghost use Rattle.dd_store.specs.Rounds.{Cleans, LoadsAtMost, LaysSome, PassesOver, KeepsSkipped, has_along};
 ghost use Rattle.dd_store.specs.Serving.{unlaid, IsReady, Serves, HoldsThen, StaysUp, Faulted};
 
 use super::Store;
@@ -26,10 +26,12 @@ impl<F: Fingerprint, L: Lists> Store<F, L> {
         ensures holds { R.tells → (s : State) → Holds (F.printed self.old.print) self.old.store (R.world rig.old) s
             → HoldsThen (F.printed self.old.print) result s s self.new.store (R.world rig.new) }
         ensures unsaid { R.tells → Elapses (R.clock rig.old) (R.clock rig.new) (λ o. o.out ≡ (R.world rig.old).said) }
+        ensures slots { R.tells → slots_shown self.old.store.journal.geo (R.world rig.new) ≡ slots_shown self.old.store.journal.geo (R.world rig.old) }
         ensures said { R.tells → (R.world rig.new).said ≡ (R.world rig.old).said }
         ensures none { OnOk result (has_along along self.new.store ≡ false) }
         ensures idle { has_along along self.old.store ≡ false → (result ≡ Ok tt) × (rig.new ≡ rig.old) × (self.new.store ≡ unlaid self.old.store) }
         ensures rows { OnOk result (Cleans self.old.store self.new.store) }
+        ensures skips { OnOk result (KeepsSkipped along self.old.store self.new.store) }
         ensures failed { IfErr result (λ fault. fault ≡ FlashRead → Cleans self.old.store self.new.store) }
         ensures fault { IfErr result (λ fault. fault ≢ DiskRead) }
         ensures up { StaysUp result self.new.store }
@@ -61,9 +63,11 @@ impl<F: Fingerprint, L: Lists> Store<F, L> {
         ensures holds { R.tells → (s : State) → Holds (F.printed self.old.print) self.old.store (R.world rig.old) s
             → HoldsThen (F.printed self.old.print) result s s self.new.store (R.world rig.new) }
         ensures unsaid { R.tells → Elapses (R.clock rig.old) (R.clock rig.new) (λ o. o.out ≡ (R.world rig.old).said) }
+        ensures slots { R.tells → slots_shown self.old.store.journal.geo (R.world rig.new) ≡ slots_shown self.old.store.journal.geo (R.world rig.old) }
         ensures said { R.tells → (R.world rig.new).said ≡ (R.world rig.old).said }
         ensures none { OnOk result (has_along along self.new.store ≡ false) }
         ensures rows { OnOk result (Cleans self.old.store self.new.store) }
+        ensures skips { OnOk result (KeepsSkipped along self.old.store self.new.store) }
         ensures failed { IfErr result (λ fault. fault ≡ FlashRead → Cleans self.old.store self.new.store) }
         ensures fault { IfErr result (λ fault. fault ≢ DiskRead) }
         ensures up { StaysUp result self.new.store }
@@ -97,8 +101,10 @@ impl<F: Fingerprint, L: Lists> Store<F, L> {
         ensures holds { R.tells → (s : State) → Holds (F.printed self.old.print) self.old.store (R.world rig.old) s
             → HoldsThen (F.printed self.old.print) result s s self.new.store (R.world rig.new) }
         ensures unsaid { R.tells → Elapses (R.clock rig.old) (R.clock rig.new) (λ o. o.out ≡ (R.world rig.old).said) }
+        ensures slots { R.tells → slots_shown self.old.store.journal.geo (R.world rig.new) ≡ slots_shown self.old.store.journal.geo (R.world rig.old) }
         ensures said { R.tells → (R.world rig.new).said ≡ (R.world rig.old).said }
         ensures rows { OnOk result (Cleans self.old.store self.new.store) }
+        ensures skips { OnOk result (KeepsSkipped along self.old.store self.new.store) }
         ensures failed { IfErr result (λ fault. fault ≡ FlashRead → Cleans self.old.store self.new.store) }
         ensures fault { IfErr result (λ fault. fault ≢ DiskRead) }
         ensures up { StaysUp result self.new.store }
@@ -139,9 +145,11 @@ impl<F: Fingerprint, L: Lists> Store<F, L> {
         ensures holds { R.tells → (s : State) → Holds (F.printed self.old.print) self.old.store (R.world rig.old) s
             → HoldsThen (F.printed self.old.print) result s s self.new.store (R.world rig.new) }
         ensures unsaid { R.tells → Elapses (R.clock rig.old) (R.clock rig.new) (λ o. o.out ≡ (R.world rig.old).said) }
+        ensures flash { R.tells → (R.world rig.new).flash ≡ (R.world rig.old).flash }
         ensures said { R.tells → (R.world rig.new).said ≡ (R.world rig.old).said }
         ensures store { LaysSome result self.old.store self.new.store }
         ensures some { OnOk result (0 < length self.new.store.laid) }
+        ensures skips { OnOk result (PassesOver along self.new.store.laid) }
         ensures print { self.new.print ≡ self.old.print }
         ensures reads { (R.counts rig.new).disk.reads ≤ (R.counts rig.old).disk.reads }
         ensures writes { OnOk result ((R.counts rig.new).disk.writes ≤ (R.counts rig.old).disk.writes + length self.new.store.laid) }

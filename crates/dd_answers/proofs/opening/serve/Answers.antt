@@ -2,6 +2,7 @@ use Rattle.std.proofs.Common.{◌≡◌, ◌≢◌, ◌⊎◌, inl, inr, ℕ, �
 use Rattle.dd_block.specs.declared.print.Fp.{Fp}
 use Rattle.dd_block.specs.declared.geometry.Geometry.{Geometry}
 use Rattle.dd_rig.specs.Clock.{Elapses}
+use Rattle.dd_rig.specs.Counts.{up_to}
 use Rattle.dd_rig.specs.World.{World, Outcome, MayLeave}
 use Rattle.dd_rig.proofs.Moments.{goes_on, widens}
 use Rattle.dd_model.specs.State.{State, Sizes}
@@ -94,7 +95,7 @@ returns-in-Ok-clause-serves g c = λ t u from.
     let kept = c.in-Ok.ensures.kept t from.start from.stands in
     let printed = ap g.F.Fingerprint.printed c.in-Ok.ensures.print in
     serves_since (g.F.Fingerprint.printed c.args.print) (sizes_of from.stands.geo) from.start script 1 c.end_store.result (g.R.Rig.world c.args.rig.now) (g.R.Rig.world c.open_store.new.rig) (g.R.Rig.world c.end_store.new.rig)
-    (g.R.Rig.counts c.args.rig.now) (g.R.Rig.counts c.open_store.new.rig) (g.R.Rig.counts c.end_store.new.rig) c.open_store.ensures.frame.0 c.end_store.ensures.frame.0 (opened_calls c.open_store.ensures.calls) (c.open_store.ensures.said t)
+    (g.R.Rig.counts c.args.rig.now) (g.R.Rig.counts c.open_store.new.rig) (g.R.Rig.counts c.end_store.new.rig) c.open_store.ensures.frame.0 c.end_store.ensures.frame.0 (opened_calls (up_to 4 1 0) (g.R.Rig.counts c.args.rig.now) (g.R.Rig.counts c.open_store.new.rig) c.open_store.ensures.calls) (c.open_store.ensures.said t)
     (by_three (λ (p : List ℕ → Fp) (geo : Geometry) (said : List ℕ). Serves p (sizes_of geo) from.start script 0 c.end_store.result (g.R.Rig.world c.open_store.new.rig) (g.R.Rig.world c.end_store.new.rig) (g.R.Rig.counts c.open_store.new.rig) (g.R.Rig.counts c.end_store.new.rig))
     printed kept.0 (c.open_store.ensures.said t)
     (c.end_store.ensures.serves t u from.start (subst (λ (p : List ℕ → Fp). Kept p c.in-Ok.store.store (g.R.Rig.world c.open_store.new.rig) from.start from.start) (sym printed) kept.1)))

@@ -1,20 +1,28 @@
-use Rattle.std.proofs.Common.{ℕ, List, subst}
-use Rattle.std.specs.Prelude.{IfOk, IfErr, OnOk}
+use Rattle.std.proofs.Common.{◌≤◌, ℕ, List, length, ap, subst, arith, Ok, Err}
+use Rattle.std.specs.Prelude.{Result, IfOk, IfErr, OnOk}
+use Rattle.dd_block.specs.declared.geometry.Geometry.{Geometry}
 use Rattle.dd_block.specs.declared.print.Fp.{Fp}
 use Rattle.dd_rig.specs.Clock.{Elapses}
 use Rattle.dd_rig.specs.Counts.{Rose}
 use Rattle.dd_rig.specs.World.{World}
-use Rattle.dd_model.specs.State.{Sizes}
+use Rattle.dd_model.specs.State.{Sizes, State}
+use Rattle.dd_script.specs.Command.{Command}
 use Rattle.dd_script.specs.Output.{dialect_of}
 use Rattle.dd_script.specs.Reading.{Held, left, fuel, IsTakenTo}
 use Rattle.dd_script.specs.Script.{commands_of, EndsWithin}
+use Rattle.dd_store.specs.Keeping.{Kept}
 use Rattle.dd_store.specs.Meaning.{sizes_of}
+use Rattle.dd_loop.specs.Answering.{Pays}
 use Rattle.dd_loop.specs.Halting.{Halts}
+use Rattle.dd_loop.specs.Terms.{Terms}
 use Rattle.dd_loop.specs.Serving.{ServedAll, ServedUpTo}
-use Rattle.dd_loop.specs.Standing.{StandForPrefix}
+use Rattle.dd_loop.specs.Standing.{IsHeld, StandForPrefix}
+use Rattle.dd_loop.proofs.Served.{all_by, some_by}
 use Rattle.dd_answers.specs.Answering.{StandsBy}
-use Rattle.dd_answers.specs.Serving.{FaultsPaid}
+use Rattle.dd_answers.specs.Costs.{CostsLines, HasArrayBehind}
+use Rattle.dd_answers.specs.Serving.{LinesPaid}
 use Rattle.dd_answers.proofs.Finishing.{ok_both}
+use Rattle.dd_answers.proofs.Spent.{drained_by, listed_rows, ok_map, err_map, spent_by}
 use Rattle.dd_answers.proofs.serving.serve_script.Goals as goal
 
 pub returns-clause-crash : goal.returns-clause-crash
@@ -42,7 +50,8 @@ returns-clause-all g c = λ t u start kept.
     (ok_map c.serve_lines-served.result _ _
     (all_by print (sizes_of geo) (StandsBy print) start commands (Pays (CostsLines c.args.store.store store.store) before after) (LinesPaid (length start.addresses) before after)
     (spent_by (length start.addresses) c.args.store.store store.store before after few) old.said new
-    (IsHeld (λ committed held. Kept (g.F.Fingerprint.printed store.print) store.store new committed held)) (HasArrayBehind (sizes_of geo) new) _)
+    (λ lines s. IsHeld (λ committed held. Kept (g.F.Fingerprint.printed store.print) store.store new committed held) s) (HasArrayBehind (sizes_of geo) new)
+    (drained_by (g.F.Fingerprint.printed store.print) c.args.store.store store.store new before after (ap (λ (terms : Terms). terms.sizes) c.serve_lines-served.ensures.same) c.requires.few c.knows_dirty-2.ensures.none))
     (c.serve_lines-served.ensures.all t u old start kept))
 
 pub returns-clause-some : goal.returns-clause-some

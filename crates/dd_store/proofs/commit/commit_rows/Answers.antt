@@ -1,3 +1,4 @@
+use Rattle.dd_store.proofs.Untouched.{slots_outside}
 use Rattle.std.proofs.Common.{◌≡◌, ◌+◌, ℕ, ◌∙◌, sym, ap, subst, arith}
 use Rattle.std.specs.Prelude.{OnOk}
 use Rattle.dd_rig.specs.declared.device.Dev.{Dev}
@@ -87,3 +88,10 @@ returns-clause-holds g c = λ told print store held is holds.
     on_ok c.commit.result
     (holds_committed print here old new (g.met.R.Rig.shows_image c.args.rig.now Flash told) (g.met.R.Rig.shows_image c.commit.new.rig Flash told) (sized_now ∙ ap (λ (size : Dev → ℕ). size Flash) c.commit.ensures.size ∙ sym sized)
     held is c.commit.new.self c.commit.ensures.geometry (c.commit.ensures.outside told) holds)
+
+pub returns-clause-slots : goal.returns-clause-slots
+returns-clause-slots g c = λ told.
+    let sized = g.met.R.Rig.has_size c.args.rig.now Flash told in
+    let sized_now = g.met.R.Rig.has_size c.commit.new.rig Flash told in
+    slots_outside c.args.journal.now.geo (g.R.Rig.world c.args.rig.now) (g.R.Rig.world c.commit.new.rig) (g.met.R.Rig.shows_image c.args.rig.now Flash told) (g.met.R.Rig.shows_image c.commit.new.rig Flash told)
+    (sized_now ∙ ap (λ (size : Dev → ℕ). size Flash) c.commit.ensures.size ∙ sym sized) (c.commit.ensures.outside told)

@@ -1,3 +1,4 @@
+use Rattle.dd_store.proofs.Altering.{alters_disk}
 use Rattle.std.proofs.Common.{◌≡◌, ◌*◌, length, refl, ◌∙◌, ap, arith}
 use Rattle.std.proofs.lemmas.Result.{on_ok_weaker}
 use Rattle.dd_rig.specs.declared.device.Dev.TheVariants.{Flash, Disk}
@@ -59,3 +60,6 @@ returns-clause-holds_laid g c = λ told print store held same is may holds conte
     (holds_laid print store (g.R.Rig.world c.args.rig.now) (g.R.Rig.world c.write.new.self) disk c.args.geo same (omega (arith, sized, c.requires.disk)) held is holds c.args.address may
     (c.from.result * c.from-2.result) (length c.args.from.now) place c.requires.block (c.write.ensures.any told) c.args.from.now refl content_is)
     (c.write.ensures.ok told)
+
+pub returns-clause-flash : goal.returns-clause-flash
+returns-clause-flash g c = λ told. (alters_disk (c.from.result * c.from-2.result) (length c.args.from.now) (g.R.Rig.world c.args.rig.now) (g.R.Rig.world c.write.new.self) (c.write.ensures.any told)).1

@@ -36,6 +36,7 @@ loop-address-init g c =
       holds = λ told print store s geo same is may held. subst (λ (ns : List ℕ). Holds print (all_laid ns store) world s) may.unlaid held;
       unsaid = λ told. starts _ _;
       said = λ told. refl;
+      flash = λ told. refl;
       reads = omega arith;
       writes = omega arith;
       frame = frame_self _ _;
@@ -61,6 +62,7 @@ loop-address-preserved g c =
           (c.in-Ok.ensures.holds_laid told print (all_laid (take i all) store) s geo same (laid_first_is store all is may i) (may_next store all is may i lt) (inv.holds told print store s geo same is may held));
       unsaid = λ told. goes_on (inv.unsaid told) (c.lay_address.ensures.unsaid told) (λ o out. out ∙ inv.said told);
       said = λ told. c.lay_address.ensures.said told ∙ inv.said told;
+      flash = λ told. c.lay_address.ensures.flash told ∙ inv.flash told;
       reads = omega (arith, inv.reads, c.lay_address.ensures.calls.1.0);
       writes = omega (arith, inv.writes, c.lay_address.ensures.calls.1.1);
       frame = frame_trans _ _ _ _ _ _ inv.frame c.lay_address.ensures.frame;

@@ -24,6 +24,7 @@ invariant-loop-address g l =
           → Holds print (all_laid (take l.address-index l.addresses) store) (world l.rig) s;
       unsaid : g.R.Rig.tells → Elapses (clock l.initial.rig) (clock l.rig) (λ o. o.out ≡ (world l.initial.rig).said);
       said : g.R.Rig.tells → (world l.rig).said ≡ (world l.initial.rig).said;
+      flash : g.R.Rig.tells → (world l.rig).flash ≡ (world l.initial.rig).flash;
       reads : (counts l.rig).disk.reads ≤ (counts l.initial.rig).disk.reads;
       writes : (counts l.rig).disk.writes ≤ (counts l.initial.rig).disk.writes + l.address-index;
       frame : Frame (counts l.initial.rig) (counts l.rig) (g.R.Rig.device_size l.initial.rig) (g.R.Rig.device_size l.rig);

@@ -7,7 +7,7 @@ use Rattle.dd_slots.specs.declared.usage.Usage.TheVariants.{Free, Used}
 use Rattle.dd_slots.specs.Slots.{SlotsView, count_of, slot_from, block_in, saved, WithinSave, SavesSome}
 use Rattle.dd_slots.proofs.Ranges.{slot_within, saved_slot}
 use Rattle.dd_store.proofs.Known.{use_placed}
-use Rattle.dd_store.proofs.Saving.{saved_crash, saved_kept}
+use Rattle.dd_store.proofs.Saving.{saved_crash, saved_holds, saved_kept}
 use Rattle.dd_store.proofs.place.place_block.Goals as goal
 
 pub returns-in_err-save-in-Some-clause-crash : goal.returns-in_err-save-in-Some-clause-crash
@@ -59,3 +59,17 @@ returns-in_err-save-in-Some-clause-placed g c = λ geo placed. use_placed geo c.
 
 pub returns-in_ok-save-in-Some-clause-placed : goal.returns-in_ok-save-in-Some-clause-placed
 returns-in_ok-save-in-Some-clause-placed g c = λ geo placed. use_placed geo c.args.slots.now c.take.new.self c.in-Some.slot Used c.in-Some.ensures.1 placed
+
+pub returns-in_err-save-in-Some-clause-holds : goal.returns-in_err-save-in-Some-clause-holds
+returns-in_err-save-in-Some-clause-holds g c = λ told print store held has is holds.
+    let world = g.R.Rig.world c.args.rig.now in
+    let sized = g.met.R.Rig.has_size c.args.rig.now Flash told in
+    saved_holds print store world (g.R.Rig.world c.save.new.rig) held is c.args.slots.now has (omega (arith, sized, c.requires.flash)) c.in-Some.slot c.in-Some.ensures.0
+    (subst (λ (v : SlotsView). SavesSome v c.in-Some.slot world (g.R.Rig.world c.save.new.rig)) c.in-Some.ensures.1 (c.save.ensures.any told)) holds
+
+pub returns-in_ok-save-in-Some-clause-holds : goal.returns-in_ok-save-in-Some-clause-holds
+returns-in_ok-save-in-Some-clause-holds g c = λ told print store held has is holds.
+    let world = g.R.Rig.world c.args.rig.now in
+    let sized = g.met.R.Rig.has_size c.args.rig.now Flash told in
+    saved_holds print store world (g.R.Rig.world c.save.new.rig) held is c.args.slots.now has (omega (arith, sized, c.requires.flash)) c.in-Some.slot c.in-Some.ensures.0
+    (subst (λ (v : SlotsView). SavesSome v c.in-Some.slot world (g.R.Rig.world c.save.new.rig)) c.in-Some.ensures.1 (c.save.ensures.any told)) holds

@@ -24,3 +24,6 @@ returns-clause-answer g c = λ t first one s kept.
     (λ lines. Pays (CostsLines c.args.self.now.store.store new) before end lines 0)
     (λ a b k. subst (λ (p : List ℕ → Fp). Kept p new world a b) (ap g.F.Fingerprint.printed (sym c.write_answer.ensures.same.0)) k) one s
     (told c.args.block.now c.args.line) c.write_answer.result c.write_answer.new.text (c.write_answer.ensures.answer t one s kept)
+
+pub returns-clause-halt : goal.returns-clause-halt
+returns-clause-halt g c = λ t first one s kept. c.write_answer.ensures.halt t one s kept

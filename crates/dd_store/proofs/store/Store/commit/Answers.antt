@@ -1,7 +1,7 @@
-use Rattle.std.proofs.Common.{List, [], inr, refl, sym, ◌∙◌, ap, subst, length, arith}
+use Rattle.std.proofs.Common.{List, [], inr, refl, sym, ◌∙◌, ap, subst, length, arith, ◌≡◌}
 use Rattle.dd_record.specs.declared.rec.Rec.{Rec}
 use Rattle.dd_slots.specs.Slots.{SlotsView}
-use Rattle.dd_store.specs.Keeping.{StoreView, IsStore, Holds, Kept}
+use Rattle.dd_store.specs.Keeping.{StoreView, IsStore, Holds, Kept, slots_shown}
 use Rattle.dd_store.specs.Saving.{AreSlotsOf}
 use Rattle.dd_store.specs.Serving.{StoreOf, store_of, unlaid}
 use Rattle.dd_store.proofs.Flushing.{unlaid_is, kept_unlaid, committed_is, flushed_is, settled_placed}
@@ -94,3 +94,11 @@ returns-in-Ok-clause-holds g c = λ told s holds.
     flushed_is (λ (v : StoreView). Holds print v (g.R.Rig.world c.commit_rows.new.rig) s) was c.commit_rows.new.journal c.clear-in-Ok.new.self.items c.settle.new.self.uses c.clear.new.self.items
     c.clear-in-Ok.ensures.items (ap (λ (v : SlotsView). v.uses) c.settle.ensures) c.clear.ensures.items
     (c.in-Ok.ensures.holds told print base s its_type held)
+
+pub returns-in-Err-clause-slots : goal.returns-in-Err-clause-slots
+returns-in-Err-clause-slots g c = λ told.
+    subst (λ (v : StoreOf g.row.F.Denot). slots_shown v.store.journal.geo (g.R.Rig.world c.commit_rows.new.rig) ≡ slots_shown v.store.journal.geo (g.R.Rig.world c.args.rig.now)) c.self.view_is (c.commit_rows.ensures.slots told)
+
+pub returns-in-Ok-clause-slots : goal.returns-in-Ok-clause-slots
+returns-in-Ok-clause-slots g c = λ told.
+    subst (λ (v : StoreOf g.row.F.Denot). slots_shown v.store.journal.geo (g.R.Rig.world c.commit_rows.new.rig) ≡ slots_shown v.store.journal.geo (g.R.Rig.world c.args.rig.now)) c.self.view_is (c.commit_rows.ensures.slots told)

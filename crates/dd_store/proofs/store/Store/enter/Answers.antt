@@ -1,3 +1,4 @@
+use Rattle.dd_store.proofs.Holding.{holds_fault, holds_down}
 use Rattle.std.proofs.Common.{refl, sym, ◌∙◌, ap, subst, Ok, Err}
 use Rattle.dd_block.specs.declared.geometry.Geometry.{Geometry}
 use Rattle.dd_record.specs.declared.rec.Rec.TheVariants.{Store}
@@ -7,7 +8,7 @@ use Rattle.dd_model.specs.declared.given.Block.TheVariants.{Fresh}
 use Rattle.dd_model.specs.Listing.{touch_by}
 use Rattle.dd_model.specs.Reference.{reference, Tells}
 use Rattle.dd_store.specs.Bringing.{answer_for}
-use Rattle.dd_store.specs.Keeping.{Kept}
+use Rattle.dd_store.specs.Keeping.{Kept, Holds}
 use Rattle.dd_store.specs.Meaning.{sizes_of}
 use Rattle.dd_store.specs.Referring.{listing_in}
 use Rattle.dd_store.specs.Serving.{Serves}
@@ -58,10 +59,11 @@ returns-in-Ok-refer_fresh-clause-serves g c = λ told was s kept printed some un
     (printed ∙ ap (λ f. g.F.Fingerprint.printed f c.args.block.now) (sym c.prepare.ensures.print)) some unknown read))))
 
 pub returns-in-Ok-refer_fresh-clause-tells : goal.returns-in-Ok-refer_fresh-clause-tells
-returns-in-Ok-refer_fresh-clause-tells g c = λ told was s kept printed some unknown read.
-    let roomy = (c.in-Ok.ensures.serves told was s kept).leaves in
-    let told_it = c.in-Ok-refer_fresh.ensures.tells told roomy.committed s (subst (λ f. Kept (g.F.Fingerprint.printed f) c.prepare.new.self.store (g.R.Rig.world c.prepare.new.rig) roomy.committed s) (sym c.prepare.ensures.print) roomy.kept)
-    (printed ∙ ap (λ f. g.F.Fingerprint.printed f c.args.block.now) (sym c.prepare.ensures.print)) some unknown read in
+returns-in-Ok-refer_fresh-clause-tells g c = λ told s holds printed some unknown read.
+    let middle = g.R.Rig.world c.prepare.new.rig in
+    let held : Holds (g.F.Fingerprint.printed c.prepare.new.self.print) c.prepare.new.self.store middle s =
+    subst (λ f. Holds (g.F.Fingerprint.printed f) c.prepare.new.self.store middle s) (sym c.prepare.ensures.print) (c.in-Ok.ensures.holds told s holds) in
+    let told_it = c.in-Ok-refer_fresh.ensures.tells told s held (printed ∙ ap (λ f. g.F.Fingerprint.printed f c.args.block.now) (sym c.prepare.ensures.print)) some unknown read in
     subst (λ f. Tells (g.F.Fingerprint.printed f) (record { kind = c.fresh_kind.result; cut = c.in-Ok-refer_fresh.cut }) (answer_for c.args.dirty (sizes_of c.args.self.now.store.journal.geo) s c.args.address c.args.block.now)) c.prepare.ensures.print
     (subst (λ (geo : Geometry). Tells (g.F.Fingerprint.printed c.prepare.new.self.print) (record { kind = c.fresh_kind.result; cut = c.in-Ok-refer_fresh.cut }) (answer_for c.args.dirty (sizes_of geo) s c.args.address c.args.block.now)) c.in-Ok.ensures.rows.geometry
     (subst (λ k. Tells (g.F.Fingerprint.printed c.prepare.new.self.print) (record { kind = k; cut = c.in-Ok-refer_fresh.cut }) (answer_for c.args.dirty (sizes_of c.prepare.new.self.store.journal.geo) s c.args.address c.args.block.now)) (sym c.fresh_kind.ensures) told_it))
@@ -72,6 +74,7 @@ returns-in-Ok-refer_fresh-clause-rows g c =
     record {
       middle = c.prepare.new.self.store;
       cleans = c.in-Ok.ensures.rows;
+      own = c.in-Ok.ensures.own;
       its = Store c.args.address enters.slot c.args.fp c.args.dirty;
       touch = touch_by c.args.address (Fresh (record { slot = enters.slot; fp = c.args.fp })) c.args.dirty (listing_in c.prepare.new.self.store);
       fits = enters.fits;
@@ -80,3 +83,22 @@ returns-in-Ok-refer_fresh-clause-rows g c =
       after = enters.after;
       tells = λ i. record { kind = c.fresh_kind.ensures i; cut = enters.falls i };
     }
+
+pub returns-in-Err-clause-holds : goal.returns-in-Err-clause-holds
+returns-in-Err-clause-holds g c = λ told s holds printed some unknown read.
+    holds_fault (Unit {0}) Done (g.F.Fingerprint.printed c.args.self.now.print) c.in-Err.fault s s _ c.prepare.new.self.store (g.R.Rig.world c.prepare.new.rig) (c.in-Err.ensures.holds told s holds)
+
+pub returns-in-Err-refer_fresh-clause-holds : goal.returns-in-Err-refer_fresh-clause-holds
+returns-in-Err-refer_fresh-clause-holds g c = λ told s holds printed some unknown read.
+    holds_down Done (g.F.Fingerprint.printed c.args.self.now.print) c.in-Err-refer_fresh.fault c.in-Err-refer_fresh.ensures.fault s _ c.refer_fresh.new.self.store (g.R.Rig.world c.refer_fresh.new.rig)
+
+pub returns-in-Ok-refer_fresh-clause-holds : goal.returns-in-Ok-refer_fresh-clause-holds
+returns-in-Ok-refer_fresh-clause-holds g c = λ told s holds printed some unknown read.
+    let print = g.F.Fingerprint.printed c.args.self.now.print in
+    let middle = g.R.Rig.world c.prepare.new.rig in
+    let after = g.R.Rig.world c.refer_fresh.new.rig in
+    let held : Holds (g.F.Fingerprint.printed c.prepare.new.self.print) c.prepare.new.self.store middle s =
+    subst (λ f. Holds (g.F.Fingerprint.printed f) c.prepare.new.self.store middle s) (sym c.prepare.ensures.print) (c.in-Ok.ensures.holds told s holds) in
+    subst (λ (geo : Geometry). Holds print c.refer_fresh.new.self.store after (reference (sizes_of geo) s c.args.address c.args.block.now)) c.in-Ok.ensures.rows.geometry
+    (subst (λ f. Holds (g.F.Fingerprint.printed f) c.refer_fresh.new.self.store after (reference (sizes_of c.prepare.new.self.store.journal.geo) s c.args.address c.args.block.now)) c.prepare.ensures.print
+    (c.in-Ok-refer_fresh.ensures.holds told s held (printed ∙ ap (λ f. g.F.Fingerprint.printed f c.args.block.now) (sym c.prepare.ensures.print)) some unknown read))

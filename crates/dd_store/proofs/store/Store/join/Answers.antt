@@ -1,8 +1,9 @@
+use Rattle.dd_store.proofs.Holding.{holds_fault}
 use Rattle.std.proofs.Common.{refl}
 use Rattle.dd_model.specs.declared.done.Done.{Done}
 use Rattle.dd_model.specs.Listing.{touch_by}
 use Rattle.dd_store.specs.Referring.{listing_in}
-use Rattle.dd_store.proofs.Brought.{joined, joined_tells, serves_fault}
+use Rattle.dd_store.proofs.Brought.{joined, joined_tells, serves_fault, joined_holds}
 use Rattle.dd_store.proofs.Prepared.{touches_still}
 use Rattle.dd_store.proofs.store.Store.join.Goals as goal
 
@@ -21,16 +22,16 @@ returns-in-Ok-clause-serves g c = λ told was s kept bytes carries.
     (g.R.Rig.clock c.args.rig.now) (g.R.Rig.clock c.prepare.new.rig) c.refer_known.new.self.store (record { kind = c.kind_of.result; cut = c.refer_known.result }) c.refer_known.ensures.store (c.in-Ok.ensures.serves told was s kept)
 
 pub returns-in-Ok-clause-tells : goal.returns-in-Ok-clause-tells
-returns-in-Ok-clause-tells g c = λ told was s kept bytes carries kind.
-    let roomy = (c.in-Ok.ensures.serves told was s kept).leaves in
-    joined_tells (g.F.Fingerprint.printed c.args.self.now.print) c.args.self.now.store c.prepare.new.self.store (g.R.Rig.world c.args.rig.now) (g.R.Rig.world c.prepare.new.rig) was s c.args.its c.args.address c.args.block c.args.dirty bytes
-    c.in-Ok.ensures.rows c.refer_known.ensures.keeps c.refer_known.ensures.fits c.requires.known kept carries
-    roomy.committed roomy.kept (record { kind = c.kind_of.result; cut = c.refer_known.result }) (λ i. record { kind = c.kind_of.ensures i; cut = c.refer_known.ensures.cut i }) kind
+returns-in-Ok-clause-tells g c = λ told s holds bytes carries kind.
+    joined_tells (g.F.Fingerprint.printed c.args.self.now.print) c.args.self.now.store c.prepare.new.self.store (g.R.Rig.world c.args.rig.now) (g.R.Rig.world c.prepare.new.rig) s c.args.its c.args.address c.args.block c.args.dirty bytes
+    c.in-Ok.ensures.rows c.refer_known.ensures.keeps c.refer_known.ensures.fits c.requires.known holds (c.in-Ok.ensures.holds told s holds) carries
+    (record { kind = c.kind_of.result; cut = c.refer_known.result }) (λ i. record { kind = c.kind_of.ensures i; cut = c.refer_known.ensures.cut i }) kind
 
 pub returns-in-Ok-clause-rows : goal.returns-in-Ok-clause-rows
 returns-in-Ok-clause-rows g c = record {
   middle = c.prepare.new.self.store;
   cleans = c.in-Ok.ensures.rows;
+  own = c.in-Ok.ensures.own;
   its = c.args.its;
   touch = touch_by c.args.address c.args.block c.args.dirty (listing_in c.prepare.new.self.store);
   fits = c.refer_known.ensures.fits;
@@ -39,3 +40,12 @@ returns-in-Ok-clause-rows g c = record {
   after = c.refer_known.ensures.store;
   tells = λ i. record { kind = c.kind_of.ensures i; cut = c.refer_known.ensures.cut i };
 }
+
+pub returns-in-Err-clause-holds : goal.returns-in-Err-clause-holds
+returns-in-Err-clause-holds g c = λ told s holds bytes carries.
+    holds_fault (Unit {0}) Done (g.F.Fingerprint.printed c.args.self.now.print) c.in-Err.fault s s _ c.prepare.new.self.store (g.R.Rig.world c.prepare.new.rig) (c.in-Err.ensures.holds told s holds)
+
+pub returns-in-Ok-clause-holds : goal.returns-in-Ok-clause-holds
+returns-in-Ok-clause-holds g c = λ told s holds bytes carries.
+    joined_holds (g.F.Fingerprint.printed c.args.self.now.print) c.args.self.now.store c.prepare.new.self.store (g.R.Rig.world c.args.rig.now) (g.R.Rig.world c.prepare.new.rig) s c.args.its c.args.address c.args.block c.args.dirty bytes
+    c.in-Ok.ensures.rows c.refer_known.ensures.keeps c.refer_known.ensures.fits c.requires.known holds (c.in-Ok.ensures.holds told s holds) carries c.refer_known.new.self.store c.refer_known.ensures.store

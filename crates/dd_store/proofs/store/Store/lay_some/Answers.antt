@@ -8,6 +8,7 @@ use Rattle.dd_store.specs.Rounds.{walk_of, has_along}
 use Rattle.dd_store.specs.Serving.{StoreOf, store_of, unlaid}
 use Rattle.dd_store.proofs.Flushing.{unlaid_is, kept_unlaid}
 use Rattle.dd_store.proofs.Holding.{holds_unlaid, holds_read_failed, holds_write_failed}
+use Rattle.dd_store.proofs.Keeping.{passes_first}
 use Rattle.dd_store.proofs.LayingAll.{gathered_dirty, gathered_few, gathered_may, gathered_some, laid_all_is, rows_placed}
 use Rattle.dd_store.proofs.LayingOne.{one_state, lay_serves, read_fails, write_fails}
 use Rattle.dd_store.proofs.store.Store.lay_some.Goals as goal
@@ -175,3 +176,6 @@ returns-in-FlashRead-clause-holds g c = λ told s holds.
 
 pub returns-in-DiskWrite-clause-holds : goal.returns-in-DiskWrite-clause-holds
 returns-in-DiskWrite-clause-holds g c = λ told s holds. holds_write_failed (Unit {0}) _ c.in-Err.fault c.in-DiskWrite.is s s _ _
+
+pub returns-in-Ok-clause-skips : goal.returns-in-Ok-clause-skips
+returns-in-Ok-clause-skips g c = passes_first c.args.along c.self.inside.geo.group (g.L.Lists.listing c.self.inside.lists).dirty (g.L.Lists.referrers c.self.inside.lists) c.gather.new.into.items c.gather.ensures.first

@@ -1,11 +1,15 @@
-use Rattle.std.proofs.Common.{◌≡◌, false, length, refl, ◌∙◌, ap, arith}
+use Rattle.dd_block.specs.declared.geometry.Geometry.{Geometry}
+use Rattle.std.proofs.Common.{◌≡◌, ℕ, false, length, refl, sym, ◌∙◌, ap, subst, arith}
+use Rattle.std.specs.Prelude.{Option, IfSome}
+use Rattle.dd_record.specs.Table.{is_dirty_at}
 use Rattle.std.specs.List.{list_any}
 use Rattle.dd_model.specs.Listing.{victims_of, refers}
-use Rattle.dd_store.specs.Keeping.{StoreView, IsStore}
+use Rattle.dd_store.specs.Keeping.{StoreView, IsStore, slots_shown}
 use Rattle.dd_store.specs.Referring.{listing_in}
 use Rattle.dd_store.specs.Serving.{StoreOf, store_of, unlaid}
 use Rattle.dd_store.proofs.Cleaning.{dirty_few, cleans_on, cleans_failed}
 use Rattle.dd_store.proofs.Holding.{holds_next}
+use Rattle.dd_store.proofs.Keeping.{own_out, own_on}
 use Rattle.dd_store.proofs.Known.{listing_same}
 use Rattle.dd_store.proofs.RoomBehind.{room_on, room_without, room_out, room_drop}
 use Rattle.dd_store.proofs.Serves.{serves_next}
@@ -77,3 +81,31 @@ returns-in-Some-clause-holds g c = λ told s holds.
     let world = g.R.Rig.world in
     holds_next {T = Unit {0}} (print c.args.self.now.print) (print c.clean_out.new.self.print) (ap print c.clean_out.ensures.print) c.clean_out.new.self.store c.rounds.new.self.store (world c.clean_out.new.rig) (world c.rounds.new.rig) s s c.rounds.result
     (c.in-Ok.ensures.holds told s holds) (λ held. c.rounds.ensures.holds told s held)
+
+pub returns-in-None-clause-own : goal.returns-in-None-clause-own
+returns-in-None-clause-own g c =
+    let i = c.self.inside in
+    let was : StoreView = store_of i.up i.journal (g.L.Lists.listing i.lists) i.count i.pending.items i.slots.uses i.laid.items in
+    let old = c.args.self.now.store in
+    let middle = c.clean_out.new.self.store in
+    let are : c.victims-victims.result ≡ victims_of c.args.address c.args.want (listing_in old) = c.victims-victims.ensures.which
+    ∙ ap (victims_of c.args.address c.args.want) (listing_same i.geo (g.L.Lists.listing i.lists) was c.self.invariant.5 c.self.invariant.0 refl refl ∙ ap (λ (v : StoreOf g.row.F.Denot). listing_in v.store) c.self.view_is) in
+    let first : is_dirty_at c.args.address middle.table.a ≡ is_dirty_at c.args.address old.table.a = own_out c.args.address c.args.want old middle c.victims-victims.result are c.in-Ok.ensures.rows
+    (λ none. (c.clean_out.ensures.idle (subst (λ (o : Option ℕ). IfSome o (λ at. is_dirty_at at old.table.a ≡ false)) (sym none) tt)).2) in
+    first
+
+pub returns-in-Some-clause-own : goal.returns-in-Some-clause-own
+returns-in-Some-clause-own g c =
+    let i = c.self.inside in
+    let was : StoreView = store_of i.up i.journal (g.L.Lists.listing i.lists) i.count i.pending.items i.slots.uses i.laid.items in
+    let old = c.args.self.now.store in
+    let middle = c.clean_out.new.self.store in
+    let are : c.victims-victims.result ≡ victims_of c.args.address c.args.want (listing_in old) = c.victims-victims.ensures.which
+    ∙ ap (victims_of c.args.address c.args.want) (listing_same i.geo (g.L.Lists.listing i.lists) was c.self.invariant.5 c.self.invariant.0 refl refl ∙ ap (λ (v : StoreOf g.row.F.Denot). listing_in v.store) c.self.view_is) in
+    let first : is_dirty_at c.args.address middle.table.a ≡ is_dirty_at c.args.address old.table.a = own_out c.args.address c.args.want old middle c.victims-victims.result are c.in-Ok.ensures.rows
+    (λ none. (c.clean_out.ensures.idle (subst (λ (o : Option ℕ). IfSome o (λ at. is_dirty_at at old.table.a ≡ false)) (sym none) tt)).2) in
+    own_on c.rounds.result c.args.address c.in-Some.row.slot old middle c.rounds.new.self.store first c.rounds.ensures.skips
+
+pub returns-in-Some-clause-slots : goal.returns-in-Some-clause-slots
+returns-in-Some-clause-slots g c = λ told.
+    subst (λ (geo : Geometry). slots_shown geo (g.R.Rig.world c.rounds.new.rig) ≡ slots_shown geo (g.R.Rig.world c.clean_out.new.rig)) c.clean_out.ensures.geometry (c.rounds.ensures.slots told) ∙ c.clean_out.ensures.slots told

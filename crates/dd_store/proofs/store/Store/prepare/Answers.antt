@@ -1,7 +1,10 @@
-use Rattle.std.proofs.Common.{◌≤◌, length, sym, subst, arith}
+use Rattle.dd_block.specs.declared.geometry.Geometry.{Geometry}
+use Rattle.dd_store.proofs.Holding.{holds_next}
+use Rattle.std.proofs.Common.{◌≤◌, length, sym, subst, arith, ap, ◌≡◌, ◌∙◌}
 use Rattle.dd_model.proofs.Restored.{dirty_few}
-use Rattle.dd_store.specs.Keeping.{StoreView, IsStore, Kept}
+use Rattle.dd_store.specs.Keeping.{StoreView, IsStore, Kept, slots_shown}
 use Rattle.dd_store.specs.Serving.{StoreOf, Serves}
+use Rattle.dd_store.proofs.Keeping.{own_committed}
 use Rattle.dd_store.proofs.Ready.{ready_by}
 use Rattle.dd_store.proofs.Serves.{serves_then}
 use Rattle.dd_store.proofs.store.Store.prepare.Goals as goal
@@ -29,3 +32,18 @@ returns-then-must_commit-clause-serves g c = λ told was s kept.
     (λ k held.
     subst (λ f. Serves (g.F.Fingerprint.printed f) c.commit.result second last c.commit.new.self.store (g.R.Rig.world c.commit.new.rig) k s s) c.make_room.ensures.print
     (c.commit.ensures.serves told k s (subst (λ f. Kept (g.F.Fingerprint.printed f) c.make_room.new.self.store (g.R.Rig.world c.make_room.new.rig) k s) (sym c.make_room.ensures.print) held)))
+
+pub returns-then-must_commit-clause-own : goal.returns-then-must_commit-clause-own
+returns-then-must_commit-clause-own g c =
+    own_committed c.commit.result c.args.address c.args.self.now.store c.make_room.new.self.store c.commit.new.self.store c.commit.new.self.store.journal c.in-Ok.ensures.own c.commit.ensures.store
+
+pub returns-then-must_commit-clause-holds : goal.returns-then-must_commit-clause-holds
+returns-then-must_commit-clause-holds g c = λ told s holds.
+    let print = g.F.Fingerprint.printed in
+    let world = g.R.Rig.world in
+    holds_next {T = Unit {0}} (print c.args.self.now.print) (print c.make_room.new.self.print) (ap print c.make_room.ensures.print) c.make_room.new.self.store c.commit.new.self.store (world c.make_room.new.rig) (world c.commit.new.rig) s s c.commit.result
+    (c.in-Ok.ensures.holds told s holds) (λ held. c.commit.ensures.holds told s held)
+
+pub returns-then-must_commit-clause-slots : goal.returns-then-must_commit-clause-slots
+returns-then-must_commit-clause-slots g c = λ told.
+    subst (λ (geo : Geometry). slots_shown geo (g.R.Rig.world c.commit.new.rig) ≡ slots_shown geo (g.R.Rig.world c.make_room.new.rig)) c.make_room.ensures.geometry (c.commit.ensures.slots told) ∙ c.make_room.ensures.slots told

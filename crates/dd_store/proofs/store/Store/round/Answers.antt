@@ -1,6 +1,8 @@
-use Rattle.std.proofs.Common.{ap}
+use Rattle.dd_store.proofs.Untouched.{slots_then}
+use Rattle.std.proofs.Common.{ap, ◌∙◌}
 use Rattle.std.specs.Prelude.{Ok, Err}
 use Rattle.dd_store.proofs.Holding.{holds_next, holds_write_failed}
+use Rattle.dd_store.proofs.Keeping.{round_skips}
 use Rattle.dd_store.proofs.Serves.{serves_next, serves_down}
 use Rattle.dd_store.proofs.store.Store.round.Goals as goal
 
@@ -54,3 +56,20 @@ returns-in-Ok-mark-clause-holds g c = λ told s holds.
 
 pub returns-in-Err-mark-clause-holds : goal.returns-in-Err-mark-clause-holds
 returns-in-Err-mark-clause-holds g c = λ told s holds. holds_write_failed (Unit {0}) _ c.in-Err-mark.fault c.in-Err-mark.ensures.fault s s _ _
+
+pub returns-in-Ok-mark-clause-skips : goal.returns-in-Ok-mark-clause-skips
+returns-in-Ok-mark-clause-skips g c =
+    round_skips c.args.along c.args.self.now.store c.commit.new.self.store c.lay_some.new.self.store c.mark.new.self.store c.commit.new.self.store.journal
+    c.in-Ok.ensures.store c.in-Ok-lay_some.ensures.store c.in-Ok-mark.ensures.ok c.in-Ok-lay_some.ensures.skips
+
+pub returns-in-Err-lay_some-clause-slots : goal.returns-in-Err-lay_some-clause-slots
+returns-in-Err-lay_some-clause-slots g c = λ told.
+    slots_then c.args.self.now.store.journal.geo (g.R.Rig.world c.args.rig.now) (g.R.Rig.world c.commit.new.rig) (g.R.Rig.world c.lay_some.new.rig) (c.commit.ensures.slots told) (c.lay_some.ensures.flash told)
+
+pub returns-in-Err-mark-clause-slots : goal.returns-in-Err-mark-clause-slots
+returns-in-Err-mark-clause-slots g c = λ told.
+    slots_then c.args.self.now.store.journal.geo (g.R.Rig.world c.args.rig.now) (g.R.Rig.world c.commit.new.rig) (g.R.Rig.world c.mark.new.rig) (c.commit.ensures.slots told) (c.mark.ensures.flash told ∙ c.lay_some.ensures.flash told)
+
+pub returns-in-Ok-mark-clause-slots : goal.returns-in-Ok-mark-clause-slots
+returns-in-Ok-mark-clause-slots g c = λ told.
+    slots_then c.args.self.now.store.journal.geo (g.R.Rig.world c.args.rig.now) (g.R.Rig.world c.commit.new.rig) (g.R.Rig.world c.mark.new.rig) (c.commit.ensures.slots told) (c.mark.ensures.flash told ∙ c.lay_some.ensures.flash told)

@@ -1,10 +1,12 @@
-use Rattle.std.proofs.Common.{◌+◌, length, refl, ◌∙◌, ap, arith}
+use Rattle.dd_block.specs.declared.geometry.Geometry.{Geometry}
+use Rattle.std.proofs.Common.{◌+◌, length, refl, ◌∙◌, ap, arith, ◌≡◌, subst}
 use Rattle.std.specs.Prelude.{Ok, Err}
 use Rattle.dd_rig.proofs.Falling.{frame_self, frame_trans}
 use Rattle.dd_rig.proofs.Moments.{starts, goes_on}
-use Rattle.dd_store.specs.Keeping.{StoreView}
+use Rattle.dd_store.specs.Keeping.{StoreView, slots_shown}
 use Rattle.dd_store.proofs.Cleaning.{cleans_then, forget_cleans}
 use Rattle.dd_store.proofs.Holding.{holds_next, holds_forgotten}
+use Rattle.dd_store.proofs.Keeping.{skips_unlaid, skips_then}
 use Rattle.dd_store.proofs.Serves.{serves_next, unlaid_serves}
 use Rattle.dd_store.proofs.store.Store.some_rounds.Goals as goal
 
@@ -18,7 +20,9 @@ rounds-init g c =
       holds = λ told s holds. holds_forgotten (g.F.Fingerprint.printed c.args.self.now.print) old now (g.R.Rig.world c.args.rig.now) s same holds;
       unsaid = λ told. starts (g.R.Rig.clock c.args.rig.now) _;
       said = λ told. refl;
+      slots = λ told. refl;
       rows = forget_cleans old now same;
+      skips = skips_unlaid c.args.along old now same;
       up = ap (λ (v : StoreView). v.is_up) same ∙ c.requires.call.up;
       print = c.forget.ensures.print;
       forgets = ap (λ (v : StoreView). v.laid) same;
@@ -55,7 +59,9 @@ rounds-preserved g c =
           (i.holds told s holds) (λ held. c.in-Ok.ensures.holds told s held);
       unsaid = λ told. goes_on (i.unsaid told) (c.round.ensures.unsaid told) (λ o out. out ∙ i.said told);
       said = λ told. c.round.ensures.said told ∙ i.said told;
+      slots = λ told. subst (λ (geo : Geometry). slots_shown geo (world c.round.new.rig) ≡ slots_shown geo (world c.rounds.rig)) i.rows.geometry (c.round.ensures.slots told) ∙ i.slots told;
       rows = cleans_then c.args.self.now.store c.rounds.self.store c.round.new.self.store i.rows c.in-Ok.ensures.rows;
+      skips = skips_then c.args.along c.args.self.now.store c.rounds.self.store c.round.new.self.store i.skips c.in-Ok.ensures.skips;
       up = c.in-Ok.ensures.up;
       print = c.round.ensures.print ∙ i.print;
       forgets = c.round.ensures.forgets;
@@ -71,3 +77,9 @@ returns-in-Err-clause-holds g c = λ told s holds.
     let world = g.R.Rig.world in
     holds_next {T = Unit {0}} (print c.args.self.now.print) (print c.rounds.self.print) (ap print c.rounds.invariant.print) c.rounds.self.store c.round.new.self.store (world c.rounds.rig) (world c.round.new.rig) s s (Err c.in-Err.fault)
     (c.rounds.invariant.holds told s holds) (λ held. c.in-Err.ensures.holds told s held)
+
+pub returns-in-Err-clause-slots : goal.returns-in-Err-clause-slots
+returns-in-Err-clause-slots g c = λ told.
+    let i = c.rounds.invariant in
+    let world = g.R.Rig.world in
+    subst (λ (geo : Geometry). slots_shown geo (world c.round.new.rig) ≡ slots_shown geo (world c.rounds.rig)) i.rows.geometry (c.round.ensures.slots told) ∙ i.slots told

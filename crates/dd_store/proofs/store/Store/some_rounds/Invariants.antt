@@ -3,8 +3,8 @@ use Rattle.std.specs.Prelude.{Ok, IsTrue}
 use Rattle.dd_rig.specs.Clock.{Elapses}
 use Rattle.dd_rig.specs.Counts.{Frame}
 use Rattle.dd_model.specs.State.{State}
-use Rattle.dd_store.specs.Keeping.{Holds, Kept}
-use Rattle.dd_store.specs.Rounds.{Cleans, LoadsAtMost}
+use Rattle.dd_store.specs.Keeping.{Holds, Kept, slots_shown}
+use Rattle.dd_store.specs.Rounds.{Cleans, KeepsSkipped, LoadsAtMost}
 use Rattle.dd_store.specs.Serving.{Serves}
 use Rattle.dd_store.proofs.store.Store.some_rounds.Given as goal
 
@@ -21,7 +21,9 @@ invariant-rounds g l =
       holds : g.R.Rig.tells → (s : State) → Holds (printed l.fn.self.print) l.fn.self.store (world l.fn.rig) s → Holds (printed l.fn.self.print) l.self.store (world l.rig) s;
       unsaid : g.R.Rig.tells → Elapses (clock l.fn.rig) (clock l.rig) (λ o. o.out ≡ (world l.fn.rig).said);
       said : g.R.Rig.tells → (world l.rig).said ≡ (world l.fn.rig).said;
+      slots : g.R.Rig.tells → slots_shown l.fn.self.store.journal.geo (world l.rig) ≡ slots_shown l.fn.self.store.journal.geo (world l.fn.rig);
       rows : Cleans l.fn.self.store l.self.store;
+      skips : KeepsSkipped l.along l.fn.self.store l.self.store;
       up : IsTrue l.self.store.is_up;
       print : l.self.print ≡ l.fn.self.print;
       forgets : l.self.store.laid ≡ [];

@@ -1,3 +1,4 @@
+use Rattle.dd_store.proofs.Untouched.{slots_then}
 use Rattle.std.proofs.Common.{ap, sym, ◌∙◌, subst}
 use Rattle.std.specs.Prelude.{Ok, Err}
 use Rattle.dd_store.specs.Keeping.{Kept}
@@ -80,3 +81,15 @@ returns-in-Ok-mark-clause-holds g c = λ told s holds.
 
 pub returns-in-Err-mark-clause-holds : goal.returns-in-Err-mark-clause-holds
 returns-in-Err-mark-clause-holds g c = λ told s holds. holds_write_failed (Unit {0}) _ c.in-Err-mark.fault c.in-Err-mark.ensures.fault s s _ _
+
+pub returns-in-Err-lay-clause-slots : goal.returns-in-Err-lay-clause-slots
+returns-in-Err-lay-clause-slots g c = λ told.
+    slots_then c.args.self.now.store.journal.geo (g.R.Rig.world c.args.rig.now) (g.R.Rig.world c.commit.new.rig) (g.R.Rig.world c.lay.new.rig) (c.commit.ensures.slots told) (c.lay.ensures.flash told)
+
+pub returns-in-Err-mark-clause-slots : goal.returns-in-Err-mark-clause-slots
+returns-in-Err-mark-clause-slots g c = λ told.
+    slots_then c.args.self.now.store.journal.geo (g.R.Rig.world c.args.rig.now) (g.R.Rig.world c.commit.new.rig) (g.R.Rig.world c.mark.new.rig) (c.commit.ensures.slots told) (c.mark.ensures.flash told ∙ c.lay.ensures.flash told)
+
+pub returns-in-Ok-mark-clause-slots : goal.returns-in-Ok-mark-clause-slots
+returns-in-Ok-mark-clause-slots g c = λ told.
+    slots_then c.args.self.now.store.journal.geo (g.R.Rig.world c.args.rig.now) (g.R.Rig.world c.commit.new.rig) (g.R.Rig.world c.mark.new.rig) (c.commit.ensures.slots told) (c.mark.ensures.flash told ∙ c.lay.ensures.flash told)
