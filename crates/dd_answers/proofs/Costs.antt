@@ -17,9 +17,9 @@ use Rattle.dd_model.specs.Listing.{next_of, dirtied}
 use Rattle.dd_model.specs.State.{is_zero_block}
 use Rattle.dd_script.specs.Answers.{faults_in}
 use Rattle.dd_script.specs.Counting.{is_calm, dirty_behind}
-use Rattle.dd_script.specs.Text.{read_text, write_text, flushed_text, cleaned_text, ticked_text, bye_text, bad_text, fault_text}
+use Rattle.dd_script.specs.Text.{read_text, write_text, flushed_text, cleaned_text, ticked_text, bye_text, stat_text, bad_text, fault_text}
 use Rattle.dd_script.specs.declared.line.BadKind.{BadKind}
-use Rattle.dd_script.proofs.Counting.{Counted, hit_of, load_of, update_of, read_counted, dup_counted, new_counted, flushed_counted, bye_counted, cleaned_counted, ticked_counted, bad_counted, fault_counted, read_dirty, dup_dirty, new_dirty, bad_dirty, fault_dirty, read_calm, write_calm, cleaned_calm, ticked_calm}
+use Rattle.dd_script.proofs.Counting.{Counted, hit_of, load_of, update_of, read_counted, dup_counted, new_counted, flushed_counted, bye_counted, cleaned_counted, ticked_counted, stat_counted, bad_counted, fault_counted, read_dirty, dup_dirty, new_dirty, stat_dirty, bad_dirty, fault_dirty, read_calm, write_calm, cleaned_calm, ticked_calm}
 use Rattle.dd_store.specs.declared.fault.StoreFault.{StoreFault}
 use Rattle.dd_store.specs.declared.fault.StoreFault.TheVariants.{FlashRead, DiskRead, FlashWrite, DiskWrite}
 use Rattle.dd_store.specs.Bringing.{IsCalm, IsReadFault, References, fetches}
@@ -216,13 +216,19 @@ no_read DiskWrite e is = is
 pub no_disk : (a b : ℕ) (flash other : Quota) (before after : Counts) → (a ≤ b → Makes flash nothing before after) → (b < a → Makes other nothing before after) → CalledAtMost nothing before.disk after.disk
 no_disk a b flash other before after fits big = ⊎_elim (λ h. (big h).1) (λ h. (fits h).1) (cases_lt b a)
 
+-- a line that tells nothing of loads, hits or updates, where nothing was called
+told_costs : (store : StoreView) (counts : Counts) (line : List ℕ) → Counted line 0 0 0 → dirty_behind store.journal.geo.acap (length store.dirty) line ≡ length store.dirty → CostsLines store store (line ∷ []) 0 counts counts
+told_costs store counts line told behind = record {
+  acap = refl;
+  hits = omega (arith, told.hits);
+  dirty = λ whole most. omega (arith, behind);
+  whole = λ whole fine. record { loads = omega arith; calm = λ all. omega arith };
+}
+
+pub stat_costs : (store : StoreView) (counts : Counts) (count addresses blocks : ℕ) → CostsLines store store (stat_text count addresses blocks ∷ []) 0 counts counts
+stat_costs store counts count addresses blocks =
+    told_costs store counts (stat_text count addresses blocks) (stat_counted count addresses blocks) (stat_dirty store.journal.geo.acap (length store.dirty) count addresses blocks)
+
 -- a line that is no command
 pub bad_costs : (store : StoreView) (counts : Counts) (kind : BadKind) → CostsLines store store (bad_text kind ∷ []) 0 counts counts
-bad_costs store counts kind =
-    let told = bad_counted kind in
-    record {
-      acap = refl;
-      hits = omega (arith, told.hits);
-      dirty = λ whole most. omega (arith, bad_dirty store.journal.geo.acap (length store.dirty) kind);
-      whole = λ whole fine. record { loads = omega arith; calm = λ all. omega arith };
-    }
+bad_costs store counts kind = told_costs store counts (bad_text kind) (bad_counted kind) (bad_dirty store.journal.geo.acap (length store.dirty) kind)

@@ -14,7 +14,7 @@ use Rattle.dd_record.proofs.Walks.{row_behind-append}
 use Rattle.dd_journal.proofs.Walks.{NoneHas, Apart, found, none_before}
 use Rattle.dd_loop.specs.Saying.{SaysPiece}
 
-with_said : World → List ℕ → World
+abbrev with_said : World → List ℕ → World
 with_said old text = record { flash = old.flash; disk = old.disk; said = text }
 
 module _ (front back : List ℕ) where
@@ -147,23 +147,23 @@ module _ {Row : Type 0} (text : Row → List ℕ) (key : Row → ℕ) (rows : Li
 
       -- its text goes out behind the others
       so_far : (piece : List ℕ) → piece ≡ text row → {last : Clock} (newer : World) → tells → SaysPiece piece now last new newer → SaysPiece (flat_map text s.front ++ text row) first last old newer
-      so_far piece is newer t p = subst (λ (l : List ℕ). SaysPiece (flat_map text s.front ++ l) first _ old newer) is (says_behind (flat_map text s.front) piece old new (s.said t) newer (s.within t) p)
+      so_far piece is {last} newer t p = subst (λ (l : List ℕ). SaysPiece (flat_map text s.front ++ l) first last old newer) is (says_behind (flat_map text s.front) piece old new (s.said t) newer (s.within t) p)
 
       pub said_on : (piece : List ℕ) → piece ≡ text row → (next : Option Row) {last : Clock} (newer : World) → next ≡ row_behind (λ r. key r == key row) rows
           → (tells → newer ≡ say piece new) → (tells → SaysPiece piece now last new newer) → SaidTo next first last old newer
-      said_on piece is next newer next_is says p = record {
+      said_on piece is next {last} newer next_is says p = record {
         front = s.front ++ row ∷ [];
         behind = drop 1 s.behind;
         rows_are = here ∙ sym (append_assoc s.front (row ∷ []) (drop 1 s.behind));
         next_is = next_is ∙ ap (row_behind (λ r. key r == key row)) here ∙ row_behind-append (λ r. key r == key row) s.front row (drop 1 s.behind) new_key (eq-eqb (key row) (key row) refl);
         said = λ t. said_both (flat_map text s.front) (text row) old new (s.said t) newer (says t ∙ ap (λ (l : List ℕ). say l new) is) ∙ ap (λ (l : List ℕ). say l old) (sym texts_snoc);
-        within = λ t. subst (λ (l : List ℕ). Elapses first _ (WithinEmit l old)) (sym texts_snoc) (so_far piece is newer t (p t)).within;
+        within = λ t. subst (λ (l : List ℕ). Elapses first last (WithinEmit l old)) (sym texts_snoc) (so_far piece is newer t (p t)).within;
       }
 
       -- or in part, and no more comes
       pub said_cut : (piece : List ℕ) → piece ≡ text row → {last : Clock} (newer : World) → (tells → SaysPiece piece now last new newer) → tells → SaysPiece (flat_map text rows) first last old newer
-      said_cut piece is newer p t =
-          subst (λ (l : List ℕ). SaysPiece l first _ old newer) (sym texts_are) (says_front (flat_map text s.front ++ text row) (flat_map text (drop 1 s.behind)) old newer (so_far piece is newer t (p t)))
+      said_cut piece is {last} newer p t =
+          subst (λ (l : List ℕ). SaysPiece l first last old newer) (sym texts_are) (says_front (flat_map text s.front ++ text row) (flat_map text (drop 1 s.behind)) old newer (so_far piece is newer t (p t)))
 
       left_here : rows_left key (Some row) rows ≡ suc (length (drop 1 s.behind))
       left_here = ap (rows_left key (Some row)) here ∙ left_at key s.front row (drop 1 s.behind) new_key

@@ -14,14 +14,17 @@ use Rattle.dd_model.specs.declared.done.Done.{Done}
 use Rattle.dd_model.specs.State.{Sizes, State, content}
 use Rattle.dd_model.specs.Reference.{Tells, read_answer, write_answer}
 use Rattle.dd_model.specs.Reference as reference
+use Rattle.dd_model.specs.Orphans.{orphaned_addresses, orphaned_blocks}
+use Rattle.dd_model.specs.declared.orphans.Orphans.{Orphans}
+use Rattle.dd_script.proofs.LineEnds.{stat_no_end}
 use Rattle.dd_script.specs.Answers.{acknowledged_by, answered_one, MayFault}
-use Rattle.dd_script.specs.Command.{Command, read, write, flush, clean, tick, quit, bad, after, after_all}
+use Rattle.dd_script.specs.Command.{Command, read, write, flush, clean, tick, stat, quit, bad, after, after_all}
 use Rattle.dd_script.specs.Output.{reply_line, read_line, write_line}
-use Rattle.dd_script.specs.Text.{HasNoEnd, ended, read_text, write_text, flushed_text, cleaned_text, ticked_text, bye_text, bad_text, fault_text}
+use Rattle.dd_script.specs.Text.{HasNoEnd, ended, read_text, write_text, flushed_text, cleaned_text, ticked_text, stat_text, bye_text, bad_text, fault_text}
 use Rattle.dd_script.specs.declared.line.BadKind.{BadKind}
 use Rattle.dd_script.specs.declared.line.Line.{Line}
 use Rattle.dd_script.specs.Line.{told}
-use Rattle.dd_script.proofs.LineWords.{read_acks, write_acks, fault_acks, bad_acks, cleaned_acks, ticked_acks, no_acks, fault_no_end, flushed_acks, bye_acks, after_reply, after_fault}
+use Rattle.dd_script.proofs.LineWords.{read_acks, write_acks, fault_acks, bad_acks, cleaned_acks, ticked_acks, stat_acks, no_acks, fault_no_end, flushed_acks, bye_acks, after_reply, after_fault}
 use Rattle.dd_store.specs.declared.fault.StoreFault.{StoreFault}
 use Rattle.dd_store.specs.declared.fault.StoreFault.TheVariants.{FlashRead, DiskRead, FlashWrite, DiskWrite}
 use Rattle.dd_store.specs.Committing.{StandForEither as StoreStandsForEither}
@@ -111,6 +114,14 @@ module _ (print : List ℕ → Fp) (sizes : Sizes) (store : StoreView) (world : 
   pub replies_tick : HasNoEnd ticked_text → GoesOn print c s store world s → Costs (ticked_text ∷ []) 0 before end
       → GoesOnWith print sizes (λ committed held. Kept print store world committed held) (λ lines. Pays Costs before end lines 0) c s tick false ticked_text
   replies_tick no_end g cost = replies tick ticked_text no_end refl g (no_acks ticked_text g.committed.count ticked_acks) cost
+
+  pub replies_stat : (count : ℕ) (orphans : Orphans) → count ≡ s.count → orphans ≡ record { a = orphaned_addresses s; b = orphaned_blocks s } → GoesOn print c s store world s
+      → Costs (stat_text count orphans.a orphans.b ∷ []) 0 before end
+      → GoesOnWith print sizes (λ committed held. Kept print store world committed held) (λ lines. Pays Costs before end lines 0) c s stat false (stat_text count orphans.a orphans.b)
+  replies_stat count orphans is counts g cost =
+      let line : List ℕ = stat_text count orphans.a orphans.b in
+      replies stat line (stat_no_end count orphans.a orphans.b) (ap (λ n. stat_text n orphans.a orphans.b) is ∙ ap (λ (o : Orphans). stat_text s.count o.a o.b) counts) g
+      (no_acks line g.committed.count (stat_acks count orphans.a orphans.b)) cost
 
   pub replies_bad : (kind : BadKind) → HasNoEnd (bad_text kind) → GoesOn print c s store world s → Costs (bad_text kind ∷ []) 0 before end
       → GoesOnWith print sizes (λ committed held. Kept print store world committed held) (λ lines. Pays Costs before end lines 0) c s (bad kind) false (bad_text kind)

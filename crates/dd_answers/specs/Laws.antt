@@ -8,10 +8,11 @@ use Rattle.dd_rig.specs.declared.device.Dev.{Dev}
 use Rattle.dd_rig.specs.declared.device.Dev.TheVariants as dev
 use Rattle.dd_rig.specs.declared.tallies.Calls.{Calls}
 use Rattle.dd_rig.specs.declared.tallies.Counts.{Counts}
-use Rattle.dd_model.specs.State.{State}
+use Rattle.dd_model.specs.State.{Entry, State}
+use Rattle.dd_script.specs.Text.{lists_text}
 use Rattle.dd_store.specs.Keeping.{StoreView, Kept}
 use Rattle.dd_script.specs.Counting.{dirty_after}
-use Rattle.dd_script.proofs.Counting.{faults_both, hits_both, loads_both, updates_both, calm_both, dirty_both, dirty_more, dirty_few}
+use Rattle.dd_script.proofs.Counting.{faults_both, hits_both, loads_both, updates_both, calm_both, dirty_both, dirty_more, dirty_few, lists_counted, lists_dirty}
 use Rattle.dd_answers.specs.Answering.{MayAnswer}
 use Rattle.dd_answers.specs.Costs.{CostsWhole, CostsLines}
 
@@ -50,6 +51,17 @@ costs_none store counts = record {
   dirty = λ whole few. omega arith;
   whole = λ whole fine. record { loads = omega arith; calm = λ calm. omega arith };
 }
+
+-- nor does a line that tells both lists
+pub costs_lists : (store : StoreView) (entries : List Entry) (prints : List Fp) (counts : Counts) → CostsLines store store (lists_text entries prints ∷ []) 0 counts counts
+costs_lists store entries prints counts =
+    let told = lists_counted entries prints in
+    record {
+      acap = refl;
+      hits = omega (arith, told.hits);
+      dirty = λ whole few. omega (arith, lists_dirty store.journal.geo.acap (length store.dirty) entries prints);
+      whole = λ whole fine. record { loads = omega arith; calm = λ calm. omega arith };
+    }
 
 -- lines, and further ones
 pub costs_both : (one two three : StoreView) (lines others : List (List ℕ)) (more : ℕ) (p q r : Counts) → CostsLines one two lines 0 p q → CostsLines two three others more q r → CostsLines one three (lines ++ others) more p r

@@ -1,5 +1,6 @@
 // A store as what answers a line.
 use crate::lines::write_answer;
+use crate::listing::say_rows;
 use dd_block::Fingerprint;
 use dd_loop::{Cache, Halt, Written};
 use dd_model::Lists;
@@ -18,7 +19,7 @@ impl<F: Fingerprint, L: Lists, R: Rig> Cache<R> for StoreCache<F, L> {
     ghost use Rattle.dd_store.specs.Keeping.{Kept};
     ghost use Rattle.dd_answers.specs.Answering.{store_terms, MayAnswer, StandsBy};
     ghost use Rattle.dd_answers.specs.Costs.{CostsLines};
-    ghost use Rattle.dd_answers.specs.Laws.{kept_unsaid, answers_fewer, costs_none, costs_both, costs_idle, costs_cut, costs_begun};
+    ghost use Rattle.dd_answers.specs.Laws.{kept_unsaid, answers_fewer, costs_none, costs_lists, costs_both, costs_idle, costs_cut, costs_begun};
 
     ghost terms = { λ c. store_terms (F.printed c.store.print) c.store.store };
 
@@ -55,6 +56,10 @@ impl<F: Fingerprint, L: Lists, R: Rig> Cache<R> for StoreCache<F, L> {
         write_answer(&mut self.store, rig, line, block, text)
     }
 
+    fn list(&self, rig: &mut R, text: &mut [u8]) -> Result<(), Halt> {
+        say_rows(self.store.lists(), rig, text)
+    }
+
     ghost stood = { λ c first now committed held kept. kept.stands };
 
     ghost unsaid = { λ c first old new committed held flash disk kept. kept_unsaid (F.printed c.store.print) c.store.store old new committed held flash disk kept };
@@ -62,6 +67,8 @@ impl<F: Fingerprint, L: Lists, R: Rig> Cache<R> for StoreCache<F, L> {
     ghost fewer = { λ c n m size le ready. answers_fewer c.store.store n m size le ready };
 
     ghost free = { λ c counts. costs_none c.store.store counts };
+
+    ghost lists = { λ c entries prints counts. costs_lists c.store.store entries prints counts };
 
     ghost sums = { λ one two three lines others more p q r h k. costs_both one.store.store two.store.store three.store.store lines others more p q r h k };
 

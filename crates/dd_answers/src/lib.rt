@@ -7,8 +7,10 @@
 
 mod cache;
 mod lines;
+mod listing;
 mod opening;
 mod serving;
 
 pub use cache::StoreCache;
+pub use listing::say_rows;
 pub use opening::serve;

@@ -4,10 +4,12 @@ ghost use Rattle.dd_rig.specs.Clock.{Elapses};
 ghost use Rattle.dd_rig.specs.Counts.{Frame};
 ghost use Rattle.dd_model.specs.State.{State};
 ghost use Rattle.dd_script.specs.Command.{read as a_read, write as a_write, flush as a_flush, clean as a_clean, tick as a_tick, quit as a_quit};
-ghost use Rattle.dd_script.specs.Line.{told, IsIn};
+ghost use Rattle.dd_script.specs.Line.{told, asks_lists, IsIn};
 ghost use Rattle.dd_script.specs.Output.{dialect_of};
-ghost use Rattle.dd_script.specs.Text.{HasNoEnd, reply_room, ended, bad_text};
-ghost use Rattle.dd_store.specs.Keeping.{Kept};
+ghost use Rattle.dd_script.specs.Text.{HasNoEnd, reply_room, ended, bad_text, stat_text};
+ghost use Rattle.dd_rig.specs.World.{World};
+ghost use Rattle.dd_model.specs.Orphans.{orphans_of, orphaned_addresses, orphaned_blocks};
+ghost use Rattle.dd_store.specs.Keeping.{Holds, Kept};
 ghost use Rattle.dd_store.specs.Meaning.{sizes_of};
 ghost use Rattle.dd_loop.specs.Answering.{Pays, WritesLine, WritesAnswer};
 ghost use Rattle.dd_loop.specs.Halting.{HaltsByDevice};
@@ -256,7 +258,23 @@ fn write_bad(kind: BadKind, text: &mut [u8]) -> Written
     }
 }
 
-// Writes the answer to a line, where it tells a command.
+// Writes how many references there were, and how many addresses and blocks are orphaned.
+fn write_stat<F: Fingerprint, L: Lists>(store: &Store<F, L>, text: &mut [u8]) -> Written
+    requires { length text.old ≡ reply_room }
+    ensures text { take result.size text.new ≡ ended (stat_text store.now.store.count (orphans_of store.now.store.table).a (orphans_of store.now.store.table).b) }
+    ensures state { (world : World) (s : State) → Holds (F.printed store.now.print) store.now.store world s → orphans_of store.now.store.table ≡ record { a = orphaned_addresses s; b = orphaned_blocks s } }
+    ensures fits { result.size ≤ reply_room }
+    ensures faulted { result.faulted ≡ false }
+{
+    let count = store.count();
+    let orphans = store.orphans();
+    Written {
+        size: write_reply(Reply::Stat { count, orphans }, text),
+        faulted: false,
+    }
+}
+
+// Writes the answer to a line, where it tells a command other than `l`.
 #[tactic(auto, using(crate::proofs::Stepping::answer_steps))]
 pub fn write_answer<F: Fingerprint, L: Lists, R: Rig>(
     store: &mut Store<F, L>,
@@ -267,6 +285,7 @@ pub fn write_answer<F: Fingerprint, L: Lists, R: Rig>(
 ) -> Result<Option<Written>, Halt>
     requires ready { MayAnswer store.old.store 1 (R.device_size rig.old) }
     requires within { IsIn (dialect_of (sizes_of store.old.store.journal.geo)) line }
+    requires other { asks_lists line ≡ false }
     requires block { length block.old ≡ store.old.store.journal.geo.block }
     requires text { length text.old ≡ reply_room }
     ensures crash { R.tells → (c s : State) → Kept (F.printed store.old.print) store.old.store (R.world rig.old) c s
@@ -291,6 +310,8 @@ pub fn write_answer<F: Fingerprint, L: Lists, R: Rig>(
         Line::Clean => Ok(Some(write_cleaned(store, rig, text)?)),
         Line::Tick => Ok(Some(write_ticked(store, rig, text)?)),
         Line::Quit => Ok(Some(write_bye(store, rig, text)?)),
+        Line::Stat => Ok(Some(write_stat(store, text))),
         Line::Bad(kind) => Ok(Some(write_bad(kind, text))),
+        Line::Lists => unreachable!(),
     }
 }

@@ -1,7 +1,8 @@
 use Rattle.std.proofs.Common.{inl, ℕ, Bool, List, [], refl, sym, subst}
 use Rattle.dd_model.specs.State.{State}
-use Rattle.dd_script.specs.Command.{read as a_read, write as a_write, flush as a_flush, clean as a_clean, tick as a_tick, quit as a_quit, bad}
-use Rattle.dd_script.specs.Text.{bad_text}
+use Rattle.dd_script.specs.Command.{read as a_read, write as a_write, flush as a_flush, clean as a_clean, tick as a_tick, quit as a_quit, bad, stat}
+use Rattle.dd_script.specs.Text.{bad_text, stat_text}
+use Rattle.dd_model.specs.Orphans.{orphans_of}
 use Rattle.dd_rig.proofs.Falling.{falls_self}
 use Rattle.dd_script.specs.declared.line.Line.TheVariants as line_is
 use Rattle.dd_store.specs.Keeping.{Kept}
@@ -12,8 +13,8 @@ use Rattle.dd_loop.specs.Standing.{AllStandForEither}
 use Rattle.dd_script.proofs.Handing.{handed_on}
 use Rattle.dd_answers.specs.Answering.{StandsBy}
 use Rattle.dd_answers.specs.Costs.{CostsLines}
-use Rattle.dd_answers.proofs.Costs.{bad_costs}
-use Rattle.dd_answers.proofs.Replying.{replies_bad, told_by}
+use Rattle.dd_answers.proofs.Costs.{bad_costs, stat_costs}
+use Rattle.dd_answers.proofs.Replying.{replies_bad, replies_stat, told_by}
 use Rattle.dd_answers.proofs.lines.write_answer.Goals as goal
 
 pub returns-in_ok-write_read-in-Read-clause-answer : goal.returns-in_ok-write_read-in-Read-clause-answer
@@ -100,3 +101,18 @@ returns-in-Bad-clause-answer g c = λ t one s kept.
     told_by printed sizes (λ committed held. Kept printed store world committed held) (λ lines. Pays (CostsLines store store) counts counts lines 0) one s c.args.block.now c.args.line (line_is.Bad kind) (bad kind) c.write_bad.result c.write_bad.new.text
     c.in-Bad.is refl
     (bad_text kind, c.write_bad.ensures.text, subst (λ (b : Bool). GoesOnWith printed sizes (λ committed held. Kept printed store world committed held) (λ lines. Pays (CostsLines store store) counts counts lines 0) one s (bad kind) b (bad_text kind)) (sym c.write_bad.ensures.faulted) says)
+
+pub returns-in-Stat-clause-answer : goal.returns-in-Stat-clause-answer
+returns-in-Stat-clause-answer g c = λ t one s kept.
+    let printed = g.F.Fingerprint.printed c.args.store.now.print in
+    let sizes = sizes_of c.args.store.now.store.journal.geo in
+    let store = c.args.store.now.store in
+    let world = g.R.Rig.world c.args.rig.now in
+    let counts = g.R.Rig.counts c.args.rig.now in
+    let orphans = orphans_of store.table in
+    let line : List ℕ = stat_text store.count orphans.a orphans.b in
+    let says = replies_stat printed sizes store world (CostsLines store store) counts counts (falls_self counts) one s store.count orphans (sym kept.holds.means.lists.counted) (c.write_stat.ensures.state world s kept.holds)
+    (record { committed = one; either = inl refl; kept = kept }) (stat_costs store counts store.count orphans.a orphans.b) in
+    told_by printed sizes (λ committed held. Kept printed store world committed held) (λ lines. Pays (CostsLines store store) counts counts lines 0) one s c.args.block.now c.args.line line_is.Stat stat c.write_stat.result c.write_stat.new.text
+    c.in-Stat.is refl
+    (line, c.write_stat.ensures.text, subst (λ (b : Bool). GoesOnWith printed sizes (λ committed held. Kept printed store world committed held) (λ lines. Pays (CostsLines store store) counts counts lines 0) one s stat b line) (sym c.write_stat.ensures.faulted) says)
