@@ -1,6 +1,7 @@
 pub mod Costs
 pub mod Spent
 pub mod Pieces
+pub mod Listed
 pub mod Stepping
 pub mod Replying
 pub mod Finishing

@@ -13,7 +13,7 @@ use Rattle.dd_script.specs.declared.line.BadKind.{BadKind}
 use Rattle.dd_script.specs.declared.line.BadKind.TheVariants as bad_is
 use Rattle.dd_script.specs.declared.reply.Stop.{Stop}
 use Rattle.dd_script.specs.declared.reply.Stop.TheVariants as stop
-use Rattle.dd_script.specs.Text.{read_text, bye_text, bad_text, fault_text, stop_text}
+use Rattle.dd_script.specs.Text.{read_text, bye_text, stat_text, bad_text, fault_text, stop_text}
 use Rattle.dd_script.specs.Counting.{hits_in, misses_in}
 use Rattle.dd_script.proofs.Counting.{hits_both, misses_both}
 use Rattle.dd_script.proofs.ZeroTexts.{zeros_told}
@@ -45,6 +45,9 @@ fault_tells dev.Disk = record { hits = refl; looks = refl; misses = refl }
 
 bye_tells : (n : ℕ) → Tells (bye_text n) 0 0 0
 bye_tells n = record { hits = refl; looks = refl; misses = refl }
+
+stat_tells : (count addresses blocks : ℕ) → Tells (stat_text count addresses blocks) 0 0 0
+stat_tells count addresses blocks = record { hits = refl; looks = refl; misses = refl }
 
 bad_tells : (kind : BadKind) → Tells (bad_text kind) 0 0 0
 bad_tells bad_is.Long = record { hits = refl; looks = refl; misses = refl }
@@ -79,6 +82,9 @@ none_asked block bcap a = (omega arith, ((omega arith, omega arith, omega arith)
 
 pub asks_bye : (sizes : Sizes) (n : ℕ) (a : Counts) → AsksForLine sizes (bye_text n) a a
 asks_bye sizes n a = for_line sizes (bye_text n) 0 0 0 a a (bye_tells n) (none_asked sizes.block sizes.bcap a)
+
+pub asks_stat : (sizes : Sizes) (count addresses blocks : ℕ) (a : Counts) → AsksForLine sizes (stat_text count addresses blocks) a a
+asks_stat sizes count addresses blocks a = for_line sizes (stat_text count addresses blocks) 0 0 0 a a (stat_tells count addresses blocks) (none_asked sizes.block sizes.bcap a)
 
 pub asks_bad : (sizes : Sizes) (kind : BadKind) (a : Counts) → AsksForLine sizes (bad_text kind) a a
 asks_bad sizes kind a = for_line sizes (bad_text kind) 0 0 0 a a (bad_tells kind) (none_asked sizes.block sizes.bcap a)

@@ -9,17 +9,20 @@ use Rattle.dd_rig.specs.World.{World}
 use Rattle.dd_record.specs.declared.row.BRow.{BRow}
 use Rattle.dd_model.specs.declared.kind.Kind.{Kind}
 use Rattle.dd_model.specs.declared.done.Done.{Done}
+use Rattle.dd_model.specs.Orphans.{orphaned_addresses, orphaned_blocks}
+use Rattle.dd_model.specs.declared.orphans.Orphans.{Orphans}
+use Rattle.dd_script.proofs.LineEnds.{stat_no_end}
 use Rattle.dd_model.specs.State.{Sizes, State, content}
 use Rattle.dd_model.specs.Reference.{Tells, read_answer}
 use Rattle.dd_model.specs.Reference as step
 use Rattle.dd_script.specs.Answers.{acknowledged_by, MayFault}
-use Rattle.dd_script.specs.Command.{Command, read, quit, bad, after}
+use Rattle.dd_script.specs.Command.{Command, read, stat, quit, bad, after}
 use Rattle.dd_script.specs.Line.{told}
 use Rattle.dd_script.specs.Output.{reply_line, read_line}
-use Rattle.dd_script.specs.Text.{HasNoEnd, read_text, bye_text, bad_text, fault_text}
+use Rattle.dd_script.specs.Text.{HasNoEnd, read_text, bye_text, stat_text, bad_text, fault_text}
 use Rattle.dd_script.specs.declared.line.BadKind.{BadKind}
 use Rattle.dd_script.specs.declared.line.Line.{Line}
-use Rattle.dd_script.proofs.LineWords.{read_acks, fault_acks, bad_acks, no_acks, fault_no_end, bye_acks, after_reply, after_fault}
+use Rattle.dd_script.proofs.LineWords.{read_acks, fault_acks, bad_acks, stat_acks, no_acks, fault_no_end, bye_acks, after_reply, after_fault}
 use Rattle.dd_loop.specs.declared.cache.Written.{Written}
 use Rattle.dd_loop.specs.declared.halt.Halt.{Halt}
 use Rattle.dd_loop.specs.Answering.{HasFault, Pays, GoesOnWith, WritesLine, WritesAnswer}
@@ -29,7 +32,7 @@ use Rattle.dd_serve.specs.Answering.{HoldsState, StaysBy, CostsLines}
 use Rattle.dd_serve.specs.Calls.{AsksFor, AsksForLine, slots_for, looks_for, writes_for}
 use Rattle.dd_serve.specs.Laws.{keeps_images}
 use Rattle.dd_serve.specs.Scratch.{ScratchView, IsSound, Scratched, scratch_sizes, scratch_state}
-use Rattle.dd_serve.proofs.Costs.{line_asks, begun_asks, asks_read, asks_fault, asks_bye, asks_bad}
+use Rattle.dd_serve.proofs.Costs.{line_asks, begun_asks, asks_read, asks_fault, asks_bye, asks_stat, asks_bad}
 use Rattle.std.proofs.Common.{inl}
 
 -- what the code answers is the line of the definition
@@ -99,6 +102,16 @@ module _ (print : List ℕ → Fp) (scratch : ScratchView) (first world : World)
   replies_bye n fits is no_end =
       let count : n ≡ s.count = is ∙ ap (λ (t : State). t.count) (sym h.is) in
       replies print scratch scratch first world counts counts falls h.since refl h.sound c s quit (bye_text n) no_end (ap bye_text count) (sym h.is) (asks_bye (scratch_sizes scratch) n counts) (bye_acks n s.count fits (omega (arith, count)))
+
+  pub replies_stat : (orphans : Orphans) → orphans ≡ record { a = orphaned_addresses (scratch_state scratch world); b = orphaned_blocks (scratch_state scratch world) }
+      → GoesOnWith print (scratch_sizes scratch) (λ committed held. HoldsState print scratch first world held) (λ lines. Pays (CostsLines scratch scratch) counts counts lines 0) c s stat false (stat_text scratch.count orphans.a orphans.b)
+  replies_stat orphans are =
+      let line : List ℕ = stat_text scratch.count orphans.a orphans.b in
+      let count : scratch.count ≡ s.count = ap (λ (t : State). t.count) (sym h.is) in
+      let here : orphans ≡ record { a = orphaned_addresses s; b = orphaned_blocks s } = are ∙ ap (λ (t : State). record { a = orphaned_addresses t; b = orphaned_blocks t }) (sym h.is) in
+      replies print scratch scratch first world counts counts falls h.since refl h.sound c s stat line (stat_no_end scratch.count orphans.a orphans.b)
+      (ap (λ n. stat_text n orphans.a orphans.b) count ∙ ap (λ (o : Orphans). stat_text s.count o.a o.b) here) (sym h.is) (asks_stat (scratch_sizes scratch) scratch.count orphans.a orphans.b counts)
+      (no_acks line s.count (stat_acks scratch.count orphans.a orphans.b))
 
   pub replies_bad : (kind : BadKind) → HasNoEnd (bad_text kind)
       → GoesOnWith print (scratch_sizes scratch) (λ committed held. HoldsState print scratch first world held) (λ lines. Pays (CostsLines scratch scratch) counts counts lines 0) c s (bad kind) false (bad_text kind)

@@ -10,11 +10,11 @@ use Rattle.dd_rig.specs.declared.tallies.Calls.{Calls}
 use Rattle.dd_rig.specs.declared.tallies.Counts.{Counts}
 use Rattle.dd_rig.specs.Device.{Device, IsOutside, IsImage}
 use Rattle.dd_rig.specs.World.{World}
-use Rattle.dd_model.specs.State.{Sizes, State}
+use Rattle.dd_model.specs.State.{Entry, Sizes, State}
 use Rattle.dd_script.specs.Answers.{faults_in}
 use Rattle.dd_script.specs.Counting.{is_hit, is_load, is_miss, hits_in, loads_in, misses_in}
 use Rattle.dd_script.proofs.Counting.{faults_both, hits_both, loads_both, misses_both}
-use Rattle.dd_script.specs.Text.{fault_text}
+use Rattle.dd_script.specs.Text.{fault_text, lists_text}
 use Rattle.dd_loop.specs.Saying.{IsIdle}
 use Rattle.dd_loop.specs.Standing.{AllStand}
 use Rattle.dd_serve.specs.Answering.{MayAnswer, HoldsState, StaysBy, CostsLines}
@@ -111,6 +111,10 @@ asks_cut sizes line p q h =
 -- what lines cost
 pub costs_none : (scratch : ScratchView) (counts : Counts) → CostsLines scratch scratch [] 0 counts counts
 costs_none scratch counts = record { same = refl; asks = asks_early (scratch_sizes scratch) counts counts (omega arith) (omega arith) (omega arith) (omega arith) (omega arith) (omega arith) (omega arith) }
+
+pub costs_lists : (scratch : ScratchView) (entries : List Entry) (prints : List Fp) (counts : Counts) → CostsLines scratch scratch (lists_text entries prints ∷ []) 0 counts counts
+costs_lists scratch entries prints counts =
+    record { same = refl; asks = asks_early (scratch_sizes scratch) counts counts (omega arith) (omega arith) (omega arith) (omega arith) (omega arith) (omega arith) (omega arith) }
 
 pub costs_both : (one two three : ScratchView) (lines others : List (List ℕ)) (more : ℕ) (p q r : Counts) → CostsLines one two lines 0 p q → CostsLines two three others more q r → CostsLines one three (lines ++ others) more p r
 costs_both one two three lines others more p q r h k = record {

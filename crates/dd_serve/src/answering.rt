@@ -1,18 +1,20 @@
 // The line that answers each command of a script that only reads.
-ghost use Rattle.std.specs.Prelude.{◌≡◌, ◌+◌, ◌<◌, ◌≤◌, ◌^◌, ℕ, List, length, IfSome, IfOk, OnOk, IfErr};
+ghost use Rattle.std.specs.Prelude.{◌≡◌, ◌+◌, ◌<◌, ◌≤◌, ◌^◌, ℕ, false, List, length, take, IfSome, IfOk, OnOk, IfErr};
 ghost use Rattle.dd_rig.specs.Clock.{Elapses};
 ghost use Rattle.dd_rig.specs.Counts.{Frame};
 ghost use Rattle.dd_rig.specs.World.{World};
 ghost use Rattle.dd_model.specs.State.{State};
 ghost use Rattle.dd_script.specs.Command.{read as a_read};
-ghost use Rattle.dd_script.specs.Line.{told, IsIn};
+ghost use Rattle.dd_script.specs.Line.{told, asks_lists, IsIn};
 ghost use Rattle.dd_script.specs.Output.{reading_dialect_of};
-ghost use Rattle.dd_script.specs.Text.{reply_room};
+ghost use Rattle.dd_script.specs.Text.{ended, reply_room, stat_text};
+ghost use Rattle.dd_block.specs.declared.print.Fp.{Fp};
+ghost use Rattle.dd_model.specs.Orphans.{orphans_of, orphaned_addresses, orphaned_blocks};
 ghost use Rattle.dd_loop.specs.Answering.{Pays, WritesAnswer, WritesLine};
 ghost use Rattle.dd_loop.specs.Halting.{HaltsByDevice};
 ghost use Rattle.dd_serve.specs.Answering.{HoldsState, CostsLines, IsFlash};
 ghost use Rattle.dd_serve.specs.Calls.{AsksFor};
-ghost use Rattle.dd_serve.specs.Scratch.{Fits, OnlyFlash, IsWithin, scratch_sizes};
+ghost use Rattle.dd_serve.specs.Scratch.{Fits, IsSound, OnlyFlash, IsWithin, scratch_sizes, scratch_state};
 
 use crate::blocks::ScratchFault;
 use crate::scratch::Scratch;
@@ -34,6 +36,7 @@ pub fn write_answer<L: Lists, F: Fingerprint, R: Rig>(
     text: &mut [u8],
 ) -> Result<Option<Written>, Halt>
     requires within { IsIn (reading_dialect_of (scratch_sizes scratch.old)) line }
+    requires other { asks_lists line ≡ false }
     requires text { length text.old ≡ reply_room }
     requires size { (length block.old ≡ (scratch_sizes scratch.old).block) × (length other.old ≡ (scratch_sizes scratch.old).block) }
     requires count { scratch.old.count + 1 < 2 ^ 64 }
@@ -65,7 +68,25 @@ pub fn write_answer<L: Lists, F: Fingerprint, R: Rig>(
             size: write_reply(Reply::Bad(kind), text),
             faulted: false,
         })),
-        Line::Write(_) | Line::Flush | Line::Clean | Line::Tick => unreachable!(),
+        Line::Stat => Ok(Some(write_stat(scratch, text))),
+        Line::Write(_) | Line::Flush | Line::Clean | Line::Tick | Line::Lists => unreachable!(),
+    }
+}
+
+// Writes how many references there were, and how many addresses and blocks are orphaned.
+fn write_stat<L: Lists>(scratch: &Scratch<L>, text: &mut [u8]) -> Written
+    requires { length text.old ≡ reply_room }
+    ensures text { take result.size text.new ≡ ended (stat_text scratch.now.count (orphans_of scratch.now.lists.table).a (orphans_of scratch.now.lists.table).b) }
+    ensures state { (printed : List ℕ → Fp) (world : World) → IsSound printed scratch.now world
+        → orphans_of scratch.now.lists.table ≡ record { a = orphaned_addresses (scratch_state scratch.now world); b = orphaned_blocks (scratch_state scratch.now world) } }
+    ensures fits { result.size ≤ reply_room }
+    ensures faulted { result.faulted ≡ false }
+{
+    let count = scratch.count();
+    let orphans = scratch.orphans();
+    Written {
+        size: write_reply(Reply::Stat { count, orphans }, text),
+        faulted: false,
     }
 }
 

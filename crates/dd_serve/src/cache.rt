@@ -3,6 +3,7 @@ ghost use Rattle.std.specs.Prelude.{◌≡◌, ◌≤◌};
 
 use crate::answering::write_answer;
 use crate::scratch::Scratch;
+use dd_answers::say_rows;
 use dd_block::Fingerprint;
 use dd_loop::{Cache, Halt, Written};
 use dd_model::Lists;
@@ -25,7 +26,7 @@ impl<F: Fingerprint, L: Lists, R: Rig> Cache<R> for ScratchCache<F, L> {
     ghost use Rattle.std.specs.Prelude.{vec_len};
     ghost use Rattle.dd_serve.specs.Answering.{MayAnswer, HoldsState, StaysBy, CostsLines, IsFlash, scratch_terms};
     ghost use Rattle.dd_serve.specs.Scratch.{Scratched};
-    ghost use Rattle.dd_serve.specs.Laws.{answers_fewer, costs_none, costs_both, costs_idle, costs_cut, costs_begun, holds_stood, holds_unsaid, scratched_self, scratched_both, scratched_said};
+    ghost use Rattle.dd_serve.specs.Laws.{answers_fewer, costs_none, costs_lists, costs_both, costs_idle, costs_cut, costs_begun, holds_stood, holds_unsaid, scratched_self, scratched_both, scratched_said};
     ghost use Rattle.std.proofs.Common.{refl, ap, ◌∙◌};
 
     ghost terms = { λ c. scratch_terms (F.printed c.print) c.scratch };
@@ -70,6 +71,10 @@ impl<F: Fingerprint, L: Lists, R: Rig> Cache<R> for ScratchCache<F, L> {
         )
     }
 
+    fn list(&self, rig: &mut R, text: &mut [u8]) -> Result<(), Halt> {
+        say_rows(self.scratch.lists(), rig, text)
+    }
+
     ghost stood = { λ c first now committed held kept. holds_stood (F.printed c.print) c.scratch first now committed held kept };
 
     ghost unsaid = { λ c first old new committed held flash disk kept. holds_unsaid (F.printed c.print) c.scratch first old new held flash disk kept };
@@ -77,6 +82,8 @@ impl<F: Fingerprint, L: Lists, R: Rig> Cache<R> for ScratchCache<F, L> {
     ghost fewer = { λ c n m size le ready. answers_fewer c.scratch (vec_len c.other) n m size le ready };
 
     ghost free = { λ c counts. costs_none c.scratch counts };
+
+    ghost lists = { λ c entries prints counts. costs_lists c.scratch entries prints counts };
 
     ghost sums = { λ one two three lines others more p q r h k. costs_both one.scratch two.scratch three.scratch lines others more p q r h k };
 

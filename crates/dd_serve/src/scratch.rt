@@ -1,11 +1,14 @@
 // The scratch of a replay: both lists, and the blocks in slots of the flash.
-ghost use Rattle.std.specs.Prelude.{◌≡◌, ◌+◌, ◌<◌, ◌≤◌, ◌^◌, [], false, length, Some, IfOk, OnOk, OnErr, IfErr, IfSome, IsTrue};
+ghost use Rattle.std.specs.Prelude.{◌≡◌, ◌+◌, ◌<◌, ◌≤◌, ◌^◌, ℕ, List, [], false, length, Some, IfOk, OnOk, OnErr, IfErr, IfSome, IsTrue};
 ghost use Rattle.dd_rig.specs.Clock.{Elapses};
 ghost use Rattle.dd_rig.specs.Counts.{Frame};
 ghost use Rattle.dd_slots.specs.declared.usage.Usage.TheVariants.{Used};
 ghost use Rattle.dd_slots.specs.Slots.{AreNew, use_of};
 ghost use Rattle.dd_model.specs.Listing.{IsGiven, may_refer, referred, cut_of, empty_listing};
 ghost use Rattle.dd_model.specs.Reference.{Tells, reference, read_answer};
+ghost use Rattle.dd_block.specs.declared.print.Fp.{Fp};
+ghost use Rattle.dd_rig.specs.World.{World};
+ghost use Rattle.dd_model.specs.Orphans.{orphans_of, orphaned_addresses, orphaned_blocks};
 ghost use Rattle.dd_model.specs.State.{content};
 ghost use Rattle.dd_serve.specs.Calls.{AsksFor, slots_for, looks_for, writes_for, writes_until};
 ghost use Rattle.dd_serve.specs.Causes.{Faulted, LeavesWorld};
@@ -14,7 +17,7 @@ ghost use Rattle.dd_serve.specs.Scratch.{Fits, IsSound, OnlyFlash, IsWithin, scr
 use crate::blocks::ScratchFault;
 use crate::locating::locate;
 use dd_block::Fingerprint;
-use dd_model::{Block, Cut, Done, Lists};
+use dd_model::{Block, Cut, Done, Lists, Orphans};
 use dd_record::BRow;
 use dd_rig::Rig;
 use dd_slots::Slots;
@@ -72,6 +75,22 @@ impl<L: Lists> Scratch<L> {
         ensures { result ≡ self.now.blocks }
     {
         self.blocks
+    }
+
+    /// Both recency lists.
+    pub fn lists(&self) -> &L
+        ensures { L.listing result.now ≡ self.now.lists }
+    {
+        &self.lists
+    }
+
+    /// How many listed addresses aren't linked, and how many listed blocks no address is linked to.
+    pub fn orphans(&self) -> Orphans
+        ensures table { result ≡ orphans_of self.now.lists.table }
+        ensures state { (printed : List ℕ → Fp) (world : World) → IsSound printed self.now world
+            → result ≡ record { a = orphaned_addresses (scratch_state self.now world); b = orphaned_blocks (scratch_state self.now world) } }
+    {
+        self.lists.orphans()
     }
 
     /// How many references were made.
