@@ -1,0 +1,4 @@
+mod Changing
+mod Mapped
+mod Seeking
+mod Shown
