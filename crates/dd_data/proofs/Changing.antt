@@ -1,5 +1,5 @@
 -- What moving a node to the front, a new node and one less make of a data cache.
-use Rattle.std.proofs.Common.{◌≡◌, ◌≢◌, inl, inr, ℕ, suc, ◌+◌, ◌-◌, ◌<◌, ◌==◌, not, Bool, true, false, List, [], ◌∷◌, length, map, take, refl, sym, ◌∙◌, ap, subst, arith, Option, Some, None, get_or, set, cond, slice_get, is_some, count_by}
+use Rattle.std.proofs.Common.{◌≡◌, ◌≢◌, inl, inr, ℕ, suc, ◌+◌, ◌-◌, ◌<◌, ◌==◌, not, true, false, List, ◌∷◌, length, map, take, refl, sym, ◌∙◌, ap, subst, arith, Option, Some, None, set, cond, slice_get, is_some, count_by}
 use Rattle.std.specs.Prelude.{filter, ◌||◌, unwrap_or, option_map}
 use Rattle.std.specs.List.{IsDistinct}
 use Rattle.std.proofs.lemmas.Bool.{eq-eqb, ne_eqb, cases_eq, cases_lt, both_ways}
@@ -9,7 +9,7 @@ use Rattle.dd_record.specs.declared.row.BRow.{BRow}
 use Rattle.dd_record.specs.Table.{b_row}
 use Rattle.dd_lists.specs.Lists.{is_in, is_listed, list_at, without, put_front, taken_out, moved_front}
 use Rattle.dd_lists.specs.Nodes.{Nodes, value_at, is_live, node_count, IsUnlisted}
-use Rattle.dd_lists.proofs.Members.{in_cons, in_here, in_later, in_without, in_without_other, gone, distinct_without, distinct_front, at_taken, at_moved, at_put, none_from, unlisted_from}
+use Rattle.dd_lists.proofs.Members.{in_cons, in_here, in_later, in_without_other, gone, distinct_without, distinct_front, at_taken, at_moved, at_put, none_from, unlisted_from}
 use Rattle.dd_lists.proofs.Keys.{got_in_list, within_is}
 use Rattle.dd_index.specs.Index.{Index, nodes_of, Inserts, Removes}
 use Rattle.dd_index.proofs.Under.{filter_in, filter_same, filter_without}

@@ -1,11 +1,11 @@
 -- What a data cache shows.
-use Rattle.std.proofs.Common.{◌≡◌, ◌≢◌, ℕ, zero, suc, ◌<◌, ◌≤◌, ◌==◌, Bool, true, false, List, [], ◌∷◌, length, map, refl, sym, ◌∙◌, ap, subst, arith, Option, Some, None, get_or, cond, slice_get, replicate, is_some, count_by}
-use Rattle.std.specs.Prelude.{filter, option_map, unwrap_or}
+use Rattle.std.proofs.Common.{◌≡◌, ◌≢◌, ℕ, zero, suc, ◌<◌, ◌==◌, Bool, true, false, List, [], length, map, refl, sym, ◌∙◌, ap, subst, arith, Option, Some, None, get_or, cond, slice_get, replicate, is_some, count_by}
+use Rattle.std.specs.Prelude.{filter, option_map}
 use Rattle.std.specs.Str.{bytes_eq}
 use Rattle.std.specs.List.{IsDistinct}
 use Rattle.std.proofs.lemmas.Bool.{eqb-true, eq-eqb, both_ways}
 use Rattle.std.proofs.lemmas.Bool.Decides.{Decides-eqb}
-use Rattle.std.proofs.lemmas.List.{length-map, length-replicate, get_or_past, get_or-replicate}
+use Rattle.std.proofs.lemmas.List.{length-map, length-replicate}
 use Rattle.std.proofs.lemmas.List.Sums.{count_by-le-length, sum_by-cons}
 use Rattle.std.proofs.lemmas.List.Kept.{AllPairs-filter}
 use Rattle.std.proofs.lemmas.Map.Made.{AllPairs-from_IsDistinct, IsDistinct-from_AllPairs}
@@ -16,14 +16,14 @@ use Rattle.dd_record.specs.declared.row.BRow.{BRow}
 use Rattle.dd_record.specs.Table.{b_row, has_slot}
 use Rattle.dd_record.specs.Listed.{row_behind}
 use Rattle.dd_lists.specs.Lists.{is_in, behind}
-use Rattle.dd_lists.specs.Nodes.{Nodes, value_at, is_live, node_count}
+use Rattle.dd_lists.specs.Nodes.{Nodes, is_live, node_count}
 use Rattle.dd_lists.proofs.Members.{distinct_none}
 use Rattle.dd_lists.proofs.Keys.{within_is}
 use Rattle.dd_index.specs.Index.{Index, nodes_of}
 use Rattle.dd_index.specs.Chains.{from_on}
 use Rattle.dd_index.proofs.Under.{filter_in, in_filter, on_head, behind_filter}
-use Rattle.dd_data.specs.Blocks.{Data, alike, IsData}
-use Rattle.dd_data.specs.Matching.{key_of, blank, row_at, has_print, is_under, listed, place_at, shown, Matches}
+use Rattle.dd_data.specs.Blocks.{alike, IsData}
+use Rattle.dd_data.specs.Matching.{key_of, row_at, has_print, is_under, listed, place_at, shown, Matches}
 use Rattle.dd_data.proofs.Mapped.{any_find, map_none, find_map, find_only, filter_map, filter_filter, all_map, distinct_map, behind_map, behind_none}
 
 -- one fingerprint has one key

@@ -5,6 +5,8 @@
 #![tactic(auto)]
 
 mod cache;
+#[cfg(test)]
+mod tests;
 mod walks;
 
 pub use cache::DataCache;

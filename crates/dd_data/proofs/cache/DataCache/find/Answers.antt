@@ -1,4 +1,4 @@
-use Rattle.std.proofs.Common.{◌∙◌, ap, sym}
+use Rattle.std.proofs.Common.{◌∙◌, ap}
 use Rattle.std.specs.Prelude.{option_map}
 use Rattle.dd_record.specs.Table.{b_row}
 use Rattle.dd_data.specs.Blocks.{Data}

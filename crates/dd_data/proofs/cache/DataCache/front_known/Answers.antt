@@ -1,4 +1,4 @@
-use Rattle.std.proofs.Common.{◌≡◌, true, Some, None, ◌∙◌, ap, sym, refl}
+use Rattle.std.proofs.Common.{◌≡◌, Some, None, ◌∙◌, ap, sym, refl}
 use Rattle.std.specs.Prelude.{unwrap_or}
 use Rattle.dd_record.specs.Table.{has_slot}
 use Rattle.dd_lists.specs.Lists.{is_in}

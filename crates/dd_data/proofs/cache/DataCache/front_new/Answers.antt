@@ -1,11 +1,11 @@
-use Rattle.std.proofs.Common.{◌≡◌, ℕ, ◌<◌, ◌+◌, None, Some, ◌∙◌, ap, sym, subst, length}
+use Rattle.std.proofs.Common.{◌≡◌, ℕ, ◌<◌, None, ◌∙◌, ap, sym, subst}
 use Rattle.dd_record.specs.declared.row.BRow.{BRow}
 use Rattle.dd_record.specs.Table.{b_row}
 use Rattle.dd_lists.specs.Lists.{put_front}
-use Rattle.dd_lists.specs.Nodes.{Nodes, with_value, node_count}
+use Rattle.dd_lists.specs.Nodes.{Nodes, node_count}
 use Rattle.dd_index.specs.Index.{Inserts}
 use Rattle.dd_data.specs.Blocks.{Data}
-use Rattle.dd_data.specs.Matching.{place_at, key_of}
+use Rattle.dd_data.specs.Matching.{place_at}
 use Rattle.dd_data.proofs.Shown.{free_place}
 use Rattle.dd_data.proofs.Changing.{added_fresh, added_matches, added_view}
 use Rattle.dd_data.proofs.cache.DataCache.front_new.Goals as goal
