@@ -1,3 +1,4 @@
+pub mod Candidates
 mod Changing
 mod Mapped
 mod Seeking

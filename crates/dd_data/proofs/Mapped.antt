@@ -1,7 +1,7 @@
 -- Lists of nodes, and the rows that a function makes of them.
-use Rattle.std.proofs.Common.{◌≡◌, ◌≢◌, inl, inr, ℕ, suc, ◌-◌, ◌==◌, not, Bool, true, false, List, [], ◌∷◌, length, map, take, refl, sym, ◌∙◌, ap, arith, Option, Some, None, cond, slice_get, get_or, is_some}
-use Rattle.std.specs.Prelude.{find, filter, ◌||◌, option_map}
-use Rattle.std.specs.List.{AllByRecursion, IsDistinct, list_any}
+use Rattle.std.proofs.Common.{◌≡◌, ◌≢◌, inl, inr, ℕ, suc, ◌-◌, ◌==◌, not, Bool, true, false, List, [], ◌∷◌, length, map, take, refl, sym, ◌∙◌, ap, arith, Option, Some, None, cond, slice_get, get_or}
+use Rattle.std.specs.Prelude.{find, filter, option_map}
+use Rattle.std.specs.List.{AllByRecursion, IsDistinct}
 use Rattle.std.proofs.lemmas.Bool.{eqb-true, eqb-false, eq-eqb, ne_eqb, both_ways}
 use Rattle.std.proofs.lemmas.Option.{slice_get-get_or}
 use Rattle.dd_record.specs.Listed.{row_behind}
@@ -50,14 +50,6 @@ find_only p xs o has only = by_find (find p xs) refl
     by_find : (f : Option ℕ) → find p xs ≡ f → o ≡ f
     by_find (Some m) e = let found = find_in p xs m e in only m found.0 found.1
     by_find None e = none_since o (λ n is. find_out p xs n e (has n is).0 (has n is).1)
-
-pub any_find : {X : Type 0} (p : X → Bool) (xs : List X) → list_any p xs ≡ is_some (find p xs)
-any_find p [] = refl
-any_find p (x ∷ xs) = step (p x) (any_find p xs)
-  where
-    step : (b : Bool) → list_any p xs ≡ is_some (find p xs) → (b || list_any p xs) ≡ is_some (cond b (Some x) (find p xs))
-    step true later = refl
-    step false later = later
 
 pub map_none : {X : Type 0} (f : ℕ → X) (o : Option ℕ) → option_map f o ≡ None → o ≡ None
 map_none f None h = refl

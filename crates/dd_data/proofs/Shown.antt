@@ -13,7 +13,7 @@ use Rattle.std.proofs.lemmas.Option.{slice_get-map}
 use Rattle.std.proofs.lemmas.Slice.Eq.{bytes_eq-Decides}
 use Rattle.dd_block.specs.declared.print.Fp.{Fp}
 use Rattle.dd_record.specs.declared.row.BRow.{BRow}
-use Rattle.dd_record.specs.Table.{b_row, has_slot}
+use Rattle.dd_record.specs.Table.{b_row}
 use Rattle.dd_record.specs.Listed.{row_behind}
 use Rattle.dd_lists.specs.Lists.{is_in, behind}
 use Rattle.dd_lists.specs.Nodes.{Nodes, is_live, node_count}
@@ -24,7 +24,7 @@ use Rattle.dd_index.specs.Chains.{from_on}
 use Rattle.dd_index.proofs.Under.{filter_in, in_filter, on_head, behind_filter}
 use Rattle.dd_data.specs.Blocks.{alike, IsData}
 use Rattle.dd_data.specs.Matching.{key_of, row_at, has_print, is_under, listed, place_at, shown, Matches}
-use Rattle.dd_data.proofs.Mapped.{any_find, map_none, find_map, find_only, filter_map, filter_filter, all_map, distinct_map, behind_map, behind_none}
+use Rattle.dd_data.proofs.Mapped.{map_none, find_map, find_only, filter_map, filter_filter, all_map, distinct_map, behind_map, behind_none}
 
 -- one fingerprint has one key
 pub same_key : (a b : Fp) → bytes_eq a.0 b.0 ≡ true → key_of a ≡ key_of b
@@ -65,9 +65,8 @@ module _ {bcap : ℕ} {nodes : Nodes BRow} {index : Index} {places : List (Optio
       (λ m h e. ap (λ s. place_at s places) (sym (eqb-true _ _ e)) ∙ k.found m h))
       ∙ sym (find_map (λ (row : BRow). row.slot == slot) (row_at nodes) (listed nodes))
 
-  pub not_listed : (slot : ℕ) → place_at slot places ≡ None → has_slot slot rows ≡ true → ⊥
-  not_listed slot is there =
-      both_ways _ (any_find (λ (row : BRow). row.slot == slot) rows ∙ ap is_some (sym (find_is slot) ∙ ap (option_map (row_at nodes)) is)) there
+  pub not_listed : (slot : ℕ) → place_at slot places ≡ None → is_some (b_row slot rows) ≡ true → ⊥
+  not_listed slot is there = both_ways _ (ap is_some (sym (find_is slot) ∙ ap (option_map (row_at nodes)) is)) there
 
   pub free_place : (slot : ℕ) → b_row slot rows ≡ None → place_at slot places ≡ None
   free_place slot h = map_none (row_at nodes) (place_at slot places) (find_is slot ∙ h)

@@ -1,6 +1,6 @@
 // The listed blocks, in a linked list, found by their slot and by their fingerprint.
-ghost use Rattle.std.specs.Prelude.{◌≡◌, ◌-◌, ◌<◌, ◌≤◌, ◌==◌, [], ◌∷◌, Some, None, true, take, length, if◌then◌else◌, slice_get, IfOk};
-ghost use Rattle.dd_record.specs.Table.{b_row, has_slot};
+ghost use Rattle.std.specs.Prelude.{◌≡◌, ◌-◌, ◌<◌, ◌≤◌, ◌==◌, [], ◌∷◌, Some, None, IsTrue, is_some, take, length, if◌then◌else◌, slice_get, IfOk};
+ghost use Rattle.dd_record.specs.Table.{b_row};
 ghost use Rattle.dd_record.specs.Listed.{b_walk};
 ghost use Rattle.dd_data.specs.Blocks.{alike, fronted_row, last_row, IsData};
 
@@ -125,7 +125,7 @@ impl DataCache {
 
     /// Moves the row of a listed block to the front.
     pub fn front_known(&mut self, slot: u32)
-        requires { has_slot slot self.old.rows ≡ true }
+        requires { IsTrue (is_some (b_row slot self.old.rows)) }
         ensures { self.new ≡ record self.old { rows = fronted_row slot self.old.rows } }
     {
         if let Some(node) = place(&self.places, slot) {

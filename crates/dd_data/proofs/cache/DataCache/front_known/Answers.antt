@@ -1,6 +1,6 @@
-use Rattle.std.proofs.Common.{◌≡◌, Some, None, ◌∙◌, ap, sym, refl}
+use Rattle.std.proofs.Common.{◌≡◌, is_some, Some, None, ◌∙◌, ap, sym, refl}
 use Rattle.std.specs.Prelude.{unwrap_or}
-use Rattle.dd_record.specs.Table.{has_slot}
+use Rattle.dd_record.specs.Table.{b_row}
 use Rattle.dd_lists.specs.Lists.{is_in}
 use Rattle.dd_lists.proofs.Members.{gone}
 use Rattle.dd_index.specs.Index.{nodes_of}
@@ -33,4 +33,4 @@ returns-in-Some c =
 pub returns-in_default : goal.returns-in_default
 returns-in_default c =
     let is : place_at c.args.slot c.self.inside.places.items ≡ None = sym (c.place.ensures ∙ ap (place_at c.args.slot) c.deref.ensures.value) ∙ none_since c.place.result c.in_default.not-Some in
-    absurd (not_listed c.self.invariant c.args.slot is (ap (λ (d : Data). has_slot c.args.slot d.rows) c.self.view_is ∙ c.requires))
+    absurd (not_listed c.self.invariant c.args.slot is (ap (λ (d : Data). is_some (b_row c.args.slot d.rows)) c.self.view_is ∙ c.requires))
