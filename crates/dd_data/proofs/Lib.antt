@@ -1,0 +1,5 @@
+pub mod Candidates
+mod Changing
+mod Mapped
+mod Seeking
+mod Shown
