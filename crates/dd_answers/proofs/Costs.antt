@@ -1,11 +1,10 @@
 -- What the line that answers each command costs.
-use Rattle.std.proofs.Common.{◌≡◌, ◌≢◌, ◌⊎◌, inl, inr, ⊎_elim, ℕ, ◌+◌, ◌*◌, ◌-◌, ◌<◌, ◌≤◌, Bool, true, false, cond, List, [], ◌∷◌, length, refl, sym, ◌∙◌, ap, subst, arith, if◌then◌else◌, Some, None}
+use Rattle.std.proofs.Common.{◌≡◌, ◌≢◌, ⊎_elim, ℕ, ◌+◌, ◌*◌, ◌-◌, ◌<◌, ◌≤◌, Bool, true, false, cond, List, [], ◌∷◌, length, refl, sym, ◌∙◌, ap, subst, arith, if◌then◌else◌, Some, None}
 use Rattle.std.specs.Prelude.{Option, IfSome, ◌&&◌, option_map, slice_get}
 use Rattle.std.proofs.lemmas.Bool.{cases_lt}
 use Rattle.dd_block.specs.declared.print.Fp.{Fp}
 use Rattle.dd_rig.specs.declared.device.Dev.{Dev}
 use Rattle.dd_rig.specs.declared.device.Dev.TheVariants as dev
-use Rattle.dd_rig.specs.declared.tallies.Calls.{Calls}
 use Rattle.dd_rig.specs.declared.tallies.Counts.{Counts}
 use Rattle.dd_rig.specs.Counts.{CalledAtMost, Makes, NeverFalls, Quota, Rose, nothing, plus, up_to}
 use Rattle.dd_record.specs.Table.{is_link, link_at}
@@ -25,7 +24,6 @@ use Rattle.dd_store.specs.declared.fault.StoreFault.TheVariants.{FlashRead, Disk
 use Rattle.dd_store.specs.Bringing.{IsCalm, IsReadFault, References, fetches}
 use Rattle.dd_store.specs.Keeping.{StoreView}
 use Rattle.dd_store.specs.Rounds.{Cleans, LoadsAtMost}
-use Rattle.dd_store.specs.Serving.{GrowsLittle}
 use Rattle.dd_store.proofs.Calm.{hit_linked}
 use Rattle.dd_answers.specs.Costs.{calls_of, CostsLines}
 

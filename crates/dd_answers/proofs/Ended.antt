@@ -1,17 +1,14 @@
 -- How a run ends, behind its last line.
-use Rattle.std.proofs.Common.{◌≡◌, ◌≢◌, ◌⊎◌, inl, inr, ⊎_elim, ℕ, ◌+◌, ◌<◌, ◌≤◌, Bool, true, false, List, [], ◌++◌, take, drop, refl, sym, ◌∙◌, ap, subst, arith, append-nil, Ok, Err}
+use Rattle.std.proofs.Common.{◌≡◌, ◌≢◌, ◌⊎◌, inl, inr, ⊎_elim, ℕ, ◌+◌, ◌≤◌, true, false, List, ◌++◌, take, drop, refl, sym, ◌∙◌, ap, subst, arith, Err}
 use Rattle.std.proofs.lemmas.List.{take-append-drop}
-use Rattle.std.specs.Prelude.{Result}
 use Rattle.dd_block.specs.declared.print.Fp.{Fp}
 use Rattle.dd_block.specs.declared.geometry.Geometry.{Geometry}
 use Rattle.dd_rig.specs.declared.device.Dev.{Dev}
 use Rattle.dd_rig.specs.declared.device.Dev.TheVariants as dev
 use Rattle.dd_rig.specs.declared.tallies.Counts.{Counts}
-use Rattle.dd_rig.specs.Clock.{Clock, Elapses, AddsNone}
 use Rattle.dd_rig.specs.Counts.{IsQuiet, IsStill, Makes, NeverFalls, Quota, Rose, up_to}
 use Rattle.dd_rig.specs.Device.{Device, IsImage}
 use Rattle.dd_rig.specs.World.{World, Outcome, IsOwn, MayLeave, WithinEmit, shown}
-use Rattle.dd_rig.proofs.Moments.{goes_on, widens}
 use Rattle.dd_model.specs.State.{Sizes, State}
 use Rattle.dd_recover.specs.Opening.{IsFirstFault, OpenFaulted, Opens, TellsOpening}
 use Rattle.dd_recover.specs.declared.opening_fault.OpenFault.{OpenFault}
@@ -34,7 +31,7 @@ use Rattle.dd_loop.proofs.Reading.{commands_some}
 use Rattle.dd_store.specs.Serving.{StoreOf}
 use Rattle.dd_answers.specs.Headline.{IsUnopened}
 use Rattle.dd_answers.specs.Opening.{ending_of, IsUnserved, RefusesDevices}
-use Rattle.dd_answers.specs.Serving.{Caused, Ends, LinesPaid, IsBounded, IsServed, LoopEnds, Serves}
+use Rattle.dd_answers.specs.Serving.{Caused, Ends, LinesPaid, IsServed, LoopEnds, Serves}
 use Rattle.dd_answers.specs.Costs.{calls_of}
 use Rattle.dd_answers.proofs.Finishing.{unserved}
 use Rattle.dd_answers.proofs.Lasting.{said_some, serves_stopped}

@@ -13,7 +13,6 @@ use Rattle.dd_loop.proofs.Faults.{counts_none}
 use Rattle.dd_answers.specs.Answering.{StandsBy}
 use Rattle.dd_rig.proofs.Falling.{falls_self, frame_self}
 use Rattle.dd_script.specs.declared.reply.Stop.{Stop}
-use Rattle.dd_loop.specs.declared.ending.Ending.{Ending}
 use Rattle.dd_loop.specs.declared.halt.Halt.{Halt}
 use Rattle.dd_loop.specs.declared.halt.Halt.TheVariants.{Stopped, Output}
 use Rattle.dd_answers.specs.Serving.{LinesPaid, LoopEnds, served_ending}

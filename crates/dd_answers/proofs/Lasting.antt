@@ -1,21 +1,20 @@
 -- The last line of a run, behind the lines that were served.
-use Rattle.std.proofs.Common.{◌≡◌, ◌≢◌, ◌⊎◌, inl, inr, ⊎_elim, ℕ, ◌+◌, ◌<◌, ◌≤◌, Bool, true, false, List, [], ◌∷◌, ◌++◌, length, take, drop, refl, sym, ◌∙◌, ap, subst, arith, append_assoc, append-nil, length-append, Some, None}
+use Rattle.std.proofs.Common.{◌≡◌, ◌≢◌, inl, inr, ⊎_elim, ℕ, ◌+◌, ◌<◌, ◌≤◌, Bool, List, [], ◌∷◌, ◌++◌, length, take, drop, refl, sym, ◌∙◌, ap, subst, arith, append_assoc, append-nil, length-append}
 use Rattle.std.specs.List.{AllByRecursion, flat_map}
 use Rattle.std.proofs.lemmas.Bool.{cases_lt}
 use Rattle.std.proofs.lemmas.List.{take_all, take-append-le, take-append-drop}
 use Rattle.dd_block.specs.declared.print.Fp.{Fp}
-use Rattle.dd_rig.specs.declared.device.Dev.{Dev}
 use Rattle.dd_rig.specs.declared.device.Dev.TheVariants as dev
 use Rattle.dd_rig.specs.declared.tallies.Counts.{Counts}
 use Rattle.dd_rig.specs.declared.tallies.Calls.{Calls}
 use Rattle.dd_rig.specs.Counts.{IsStill, Rose, NeverFalls, plus}
 use Rattle.dd_rig.proofs.Falling.{falls_self}
 use Rattle.dd_rig.specs.Device.{Device, IsImage}
-use Rattle.dd_rig.specs.World.{World, Outcome, MayLeave, WithinEmit}
+use Rattle.dd_rig.specs.World.{World, Outcome, MayLeave}
 use Rattle.dd_model.specs.State.{Sizes, State, array_of}
 use Rattle.dd_script.specs.declared.reply.Stop.{Stop}
 use Rattle.dd_script.specs.declared.reply.Stop.TheVariants as stop
-use Rattle.dd_script.specs.Answers.{answered_by, faults_in, IsStopped, MayCome, Tell, Answered, AnswersAll}
+use Rattle.dd_script.specs.Answers.{answered_by, faults_in, IsStopped, MayCome, Tell, Answered}
 use Rattle.dd_script.specs.Command.{Command, after_all}
 use Rattle.dd_script.specs.Counting.{hits_in}
 use Rattle.dd_script.proofs.Counting.{hits_both, stop_counted}
@@ -27,12 +26,11 @@ use Rattle.dd_script.proofs.LineWords.{stop_acks, stop_no_end, no_acks}
 use Rattle.dd_script.proofs.Taking.{tell-part, tell-stop, count_after}
 use Rattle.dd_loop.specs.declared.ending.Ending.{Ending}
 use Rattle.dd_loop.specs.declared.ending.Ending.TheVariants.{Served, Refused, Stopped, Unheard}
-use Rattle.dd_loop.specs.declared.halt.Halt.{Halt}
 use Rattle.dd_loop.specs.declared.halt.Halt.TheVariants as halts
 use Rattle.dd_loop.specs.Answering.{CountsFaults, HasFault}
 use Rattle.dd_loop.specs.Ending.{status_of, ending_line, SaysLast, WithinLast}
-use Rattle.dd_loop.specs.Saying.{SaysAlone, EndsIn, IsIdle}
-use Rattle.dd_loop.specs.Serving.{Sofar, ServedAll, ServedUpTo}
+use Rattle.dd_loop.specs.Saying.{SaysAlone, IsIdle}
+use Rattle.dd_loop.specs.Serving.{Sofar, ServedUpTo}
 use Rattle.dd_loop.specs.Standing.{Stood, StandForPrefix}
 use Rattle.dd_loop.proofs.Faults.{counts_both, counts_later}
 use Rattle.dd_loop.proofs.Standing.{prefix_of_lines, stood-snoc, whole_snoc, flat_snoc, front_no_end}

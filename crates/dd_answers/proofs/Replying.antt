@@ -1,5 +1,5 @@
 -- The line that answers a call of the store, and the state behind it.
-use Rattle.std.proofs.Common.{◌≡◌, inl, inr, ℕ, ◌<◌, ◌≤◌, ◌^◌, Bool, true, false, List, [], ◌∷◌, take, refl, sym, ◌∙◌, ap, subst, arith, Some, None, Ok, Err, IfOk}
+use Rattle.std.proofs.Common.{◌≡◌, inr, ℕ, ◌<◌, ◌≤◌, ◌^◌, Bool, true, false, List, [], ◌∷◌, take, refl, sym, ◌∙◌, ap, subst, arith, Some, None, Ok, Err, IfOk}
 use Rattle.std.specs.Prelude.{Option, Result, option_map, IfSome, IfErr}
 use Rattle.dd_block.specs.declared.print.Fp.{Fp}
 use Rattle.dd_rig.specs.declared.device.Dev.{Dev}
@@ -17,8 +17,8 @@ use Rattle.dd_model.specs.Reference as reference
 use Rattle.dd_model.specs.Orphans.{orphaned_addresses, orphaned_blocks}
 use Rattle.dd_model.specs.declared.orphans.Orphans.{Orphans}
 use Rattle.dd_script.proofs.LineEnds.{stat_no_end}
-use Rattle.dd_script.specs.Answers.{acknowledged_by, answered_one, MayFault}
-use Rattle.dd_script.specs.Command.{Command, read, write, flush, clean, tick, stat, quit, bad, after, after_all}
+use Rattle.dd_script.specs.Answers.{acknowledged_by, MayFault}
+use Rattle.dd_script.specs.Command.{Command, read, write, flush, clean, tick, stat, quit, bad, after}
 use Rattle.dd_script.specs.Output.{reply_line, read_line, write_line}
 use Rattle.dd_script.specs.Text.{HasNoEnd, ended, read_text, write_text, flushed_text, cleaned_text, ticked_text, stat_text, bye_text, bad_text, fault_text}
 use Rattle.dd_script.specs.declared.line.BadKind.{BadKind}

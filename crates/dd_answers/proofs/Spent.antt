@@ -1,14 +1,13 @@
 -- What a store that served lines has paid and holds, by the counts and the devices alone.
-use Rattle.std.proofs.Common.{◌≡◌, ℕ, ◌+◌, ◌*◌, ◌<◌, ◌≤◌, Bool, true, false, List, [], length, map, sym, ◌∙◌, ap, subst, arith, refl, Ok, Err}
+use Rattle.std.proofs.Common.{◌≡◌, ℕ, ◌<◌, ◌≤◌, false, List, [], length, sym, ◌∙◌, ap, subst, arith, refl, Ok, Err}
 use Rattle.std.specs.Prelude.{Result, IfOk, IfErr}
 use Rattle.std.proofs.lemmas.List.{ext_get_or, length-map, nil_from_length}
 use Rattle.dd_block.specs.declared.print.Fp.{Fp}
 use Rattle.dd_block.specs.declared.geometry.Geometry.{Geometry}
 use Rattle.dd_rig.specs.declared.tallies.Counts.{Counts}
 use Rattle.dd_rig.specs.World.{World}
-use Rattle.dd_layout.specs.Layout.{slot_block}
 use Rattle.dd_record.specs.Table.{Table, is_dirty_at}
-use Rattle.dd_model.specs.Rows.{Shows, entry_of}
+use Rattle.dd_model.specs.Rows.{entry_of}
 use Rattle.dd_model.specs.State.{Sizes, State, array_of}
 use Rattle.dd_model.proofs.Arrays.{array_block, length-array_of}
 use Rattle.dd_script.specs.Counting.{dirty_after}

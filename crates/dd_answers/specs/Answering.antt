@@ -1,9 +1,8 @@
 -- What a store answers to lines.
-use Rattle.std.specs.Prelude.{◌≡◌, ◌+◌, ◌*◌, ◌<◌, ◌≤◌, ◌^◌, ℕ, true, false, List, length, take, Result, Ok, Err, IsTrue, ⊤}
+use Rattle.std.specs.Prelude.{◌≡◌, ◌+◌, ◌*◌, ◌<◌, ◌≤◌, ◌^◌, ℕ, true, false, List, length, take, Result, Ok, Err, IsTrue}
 use Rattle.dd_block.specs.declared.print.Fp.{Fp}
 use Rattle.dd_rig.specs.declared.device.Dev.{Dev}
 use Rattle.dd_rig.specs.declared.device.Dev.TheVariants as dev
-use Rattle.dd_rig.specs.declared.tallies.Counts.{Counts}
 use Rattle.dd_layout.specs.Layout.{flash_need, disk_need}
 use Rattle.dd_model.specs.State.{State}
 use Rattle.dd_script.specs.declared.reply.Stop.TheVariants as stop

@@ -1,5 +1,5 @@
 -- What the lines of an output cost a store: calls of its devices, and addresses that may be dirty behind them.
-use Rattle.std.specs.Prelude.{◌≡◌, ◌+◌, ◌*◌, ◌≤◌, ℕ, true, false, List, [], ◌∷◌, length}
+use Rattle.std.specs.Prelude.{◌≡◌, ◌+◌, ◌*◌, ◌≤◌, ℕ, true, false, List, length}
 use Rattle.dd_rig.specs.declared.device.Dev.TheVariants.{Disk}
 use Rattle.dd_rig.specs.declared.tallies.Calls.{Calls}
 use Rattle.dd_rig.specs.declared.tallies.Counts.{Counts}

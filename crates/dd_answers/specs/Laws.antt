@@ -1,8 +1,8 @@
 -- What an emit leaves of a store, that one which may answer some lines may answer fewer, and what lines cost together: the laws that
 -- `Cache` of dd_loop asks for.
-use Rattle.std.proofs.Common.{◌≡◌, ℕ, ◌+◌, ◌≤◌, List, [], ◌∷◌, ◌++◌, length, refl, ◌∙◌, ap, arith, sym, subst}
+use Rattle.std.proofs.Common.{◌≡◌, ℕ, ◌≤◌, List, [], ◌∷◌, ◌++◌, length, refl, ◌∙◌, ap, arith, sym, subst}
 use Rattle.dd_block.specs.declared.print.Fp.{Fp}
-use Rattle.dd_rig.specs.Device.{Device, IsImage}
+use Rattle.dd_rig.specs.Device.{Device}
 use Rattle.dd_rig.specs.World.{World}
 use Rattle.dd_rig.specs.declared.device.Dev.{Dev}
 use Rattle.dd_rig.specs.declared.device.Dev.TheVariants as dev

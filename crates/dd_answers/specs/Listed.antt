@@ -1,5 +1,5 @@
 -- What rows say of both lists.
-use Rattle.std.specs.Prelude.{ℕ, ◌==◌, List, [], ◌∷◌, Option, Some, None, if◌then◌else◌, map, length}
+use Rattle.std.specs.Prelude.{ℕ, List, map}
 use Rattle.dd_record.specs.Table.{is_link}
 use Rattle.dd_record.specs.declared.row.ARow.{ARow}
 use Rattle.dd_record.specs.declared.row.BRow.{BRow}

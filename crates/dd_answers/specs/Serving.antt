@@ -1,8 +1,7 @@
 -- What a run that serves a script says, how it ends, and why.
-use Rattle.std.specs.Prelude.{◌≡◌, ◌≢◌, ◌⊎◌, ◌++◌, ◌<◌, ◌≤◌, ℕ, Bool, false, List, [], length, Result, Ok, Err, ⊤}
+use Rattle.std.specs.Prelude.{◌≡◌, ◌⊎◌, ◌++◌, ◌≤◌, ℕ, Bool, false, List, [], length, Result, Ok, Err, ⊤}
 use Rattle.dd_block.specs.declared.print.Fp.{Fp}
-use Rattle.dd_rig.specs.Device.{IsImage}
-use Rattle.dd_rig.specs.World.{World, Outcome, MayLeave}
+use Rattle.dd_rig.specs.World.{World}
 use Rattle.dd_rig.specs.declared.tallies.Counts.{Counts}
 use Rattle.dd_rig.specs.Counts.{IsStill, Rose, plus}
 use Rattle.dd_model.specs.State.{Sizes, State}
@@ -13,7 +12,6 @@ use Rattle.dd_script.specs.Output.{dialect_of, output_of}
 use Rattle.dd_script.specs.Reading.{script_limit}
 use Rattle.dd_script.specs.Script.{lines_of, commands_of, EndsWithin}
 use Rattle.dd_script.specs.Text.{stop_text}
-use Rattle.dd_script.specs.declared.reply.Stop.{Stop}
 use Rattle.dd_script.specs.declared.reply.Stop.TheVariants as stop
 use Rattle.dd_loop.specs.declared.ending.Ending.{Ending}
 use Rattle.dd_loop.specs.declared.ending.Ending.TheVariants.{Served, Refused, Stopped, Unheard}

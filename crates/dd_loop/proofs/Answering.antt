@@ -1,18 +1,17 @@
 -- One line, from the call of the cache to the emit of its reply.
-use Rattle.std.proofs.Common.{◌≡◌, inl, inr, ℕ, List, [], ◌∷◌, ◌++◌, take, refl, ◌∙◌, ap, subst, Some, None}
+use Rattle.std.proofs.Common.{◌≡◌, inl, inr, ℕ, List, [], ◌∷◌, ◌++◌, take, ◌∙◌, ap, subst, Some, None}
 use Rattle.std.specs.Prelude.{Option}
 use Rattle.dd_block.specs.declared.print.Fp.{Fp}
 use Rattle.dd_rig.specs.Device.{IsImage}
-use Rattle.dd_rig.specs.World.{World, WithinEmit, SaysSome, say}
+use Rattle.dd_rig.specs.World.{World, WithinEmit, SaysSome}
 use Rattle.dd_rig.specs.Clock.{Clock, Elapses}
 use Rattle.dd_rig.proofs.Moments.{goes_on, widens}
 use Rattle.dd_model.specs.State.{Sizes, State}
 use Rattle.dd_script.specs.Command.{Command}
 use Rattle.dd_loop.specs.declared.cache.Written.{Written}
-use Rattle.dd_loop.specs.declared.halt.Halt.{Halt}
-use Rattle.dd_loop.specs.declared.halt.Halt.TheVariants.{Stopped, Output}
-use Rattle.dd_loop.specs.Answering.{WritesLine, WritesAnswer, AnswersLine, Saying, WithinLine, CutsLine}
-use Rattle.dd_loop.specs.Standing.{AllStand, AllStandForEither, WithinCall}
+use Rattle.dd_loop.specs.declared.halt.Halt.TheVariants.{Output}
+use Rattle.dd_loop.specs.Answering.{WritesLine, WritesAnswer, Saying, WithinLine, CutsLine}
+use Rattle.dd_loop.specs.Standing.{AllStand, WithinCall}
 use Rattle.dd_loop.proofs.Standing.{one_of}
 
 -- The answer that was written is said.

@@ -1,5 +1,5 @@
 -- Both lists, as the line that answers a command.
-use Rattle.std.proofs.Common.{◌≡◌, inl, ℕ, false, List, [], ◌∷◌, ◌++◌, length, map, take, refl, ap, subst, sym, arith, Some}
+use Rattle.std.proofs.Common.{◌≡◌, inl, ℕ, false, List, [], ◌∷◌, length, map, take, refl, ap, subst, sym, arith, Some}
 use Rattle.std.proofs.lemmas.List.{take_all}
 use Rattle.dd_block.specs.declared.print.Fp.{Fp}
 use Rattle.dd_rig.specs.declared.tallies.Counts.{Counts}

@@ -1,5 +1,5 @@
 -- What was served by one account of what lines cost, and of what is held behind them, was served by another.
-use Rattle.std.specs.Prelude.{ℕ, Bool, List, length}
+use Rattle.std.specs.Prelude.{ℕ, Bool, List}
 use Rattle.dd_block.specs.declared.print.Fp.{Fp}
 use Rattle.dd_rig.specs.World.{World}
 use Rattle.dd_model.specs.State.{Sizes, State}

@@ -1,7 +1,6 @@
 -- What lines count: those of two outputs together, and each line that a reply may be.
-use Rattle.std.proofs.Common.{◌≡◌, ℕ, zero, suc, ◌+◌, ◌-◌, ◌≤◌, Bool, true, false, cond, not, List, [], ◌∷◌, ◌++◌, length, take, replicate, refl, sym, ◌∙◌, ap, subst, arith, if◌then◌else◌, Some, None, append_assoc, append-nil}
-use Rattle.std.specs.Prelude.{Option, ◌||◌, ◌&&◌, codes, decimal}
-use Rattle.std.specs.List.{list_all}
+use Rattle.std.proofs.Common.{◌≡◌, ℕ, zero, suc, ◌+◌, ◌-◌, ◌≤◌, Bool, true, false, cond, not, List, [], ◌∷◌, ◌++◌, replicate, refl, sym, ◌∙◌, ap, arith, if◌then◌else◌, Some, None, append_assoc}
+use Rattle.std.specs.Prelude.{Option, ◌||◌, ◌&&◌, codes}
 use Rattle.std.specs.Str.{bytes_eq}
 use Rattle.std.proofs.lemmas.List.Folds.{list_all-append}
 use Rattle.std.proofs.lemmas.List.Sums.{sum_by-append}

@@ -1,5 +1,4 @@
 use Rattle.std.proofs.Common.{inl, ℕ, Bool, List, [], refl, sym, subst}
-use Rattle.dd_model.specs.State.{State}
 use Rattle.dd_script.specs.Command.{read as a_read, write as a_write, flush as a_flush, clean as a_clean, tick as a_tick, quit as a_quit, bad, stat}
 use Rattle.dd_script.specs.Text.{bad_text, stat_text}
 use Rattle.dd_model.specs.Orphans.{orphans_of}

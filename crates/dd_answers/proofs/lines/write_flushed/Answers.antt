@@ -1,7 +1,5 @@
-use Rattle.std.proofs.Common.{rules, ◌≡◌, inl, inr, ℕ, length, refl, sym, ◌∙◌, ap, subst, arith}
-use Rattle.std.specs.Prelude.{Option}
-use Rattle.dd_model.specs.declared.done.Done.{Done}
-use Rattle.dd_script.specs.Command.{read as a_read, write as a_write, flush as a_flush, clean as a_clean, tick as a_tick, quit as a_quit, after}
+use Rattle.std.proofs.Common.{rules, ℕ, length, sym, ◌∙◌, ap, arith}
+use Rattle.dd_script.specs.Command.{flush as a_flush}
 use Rattle.dd_store.specs.Keeping.{StoreView}
 use Rattle.dd_store.specs.Meaning.{sizes_of}
 use Rattle.dd_answers.specs.Costs.{CostsLines}
@@ -17,9 +15,12 @@ returns-in-Err-clause-crash g c = λ t one s kept. within_call (g.F.Fingerprint.
 
 pub returns-in-Ok-clause-answer : goal.returns-in-Ok-clause-answer
 returns-in-Ok-clause-answer g c = λ t one s kept.
-    let now = c.in-Ok.ensures.committed t one s kept in
-    (_, c.write_reply.ensures.text, replies_flush (g.F.Fingerprint.printed c.args.store.now.print) (sizes_of c.args.store.now.store.journal.geo) c.flush.new.self.store (g.R.Rig.world c.flush.new.rig) (CostsLines c.args.store.now.store c.flush.new.self.store) (g.R.Rig.counts c.args.rig.now) (g.R.Rig.counts c.flush.new.rig) c.flush.ensures.frame.0 one s c.in-Ok.count (search rules) c.write_reply.ensures.line (c.in-Ok.ensures.count.0 ∙ sym kept.holds.means.lists.counted) now
-    (flushed_costs c.args.store.now.store c.flush.new.self.store (g.R.Rig.counts c.args.rig.now) (g.R.Rig.counts c.flush.new.rig) c.flush.ensures.frame.0 c.flush.ensures.grows.same_geo c.in-Ok.count (omega (arith, ap (λ (v : StoreView). length v.dirty) c.in-Ok.ensures.store)) (no_disk _ _ _ _ (g.R.Rig.counts c.args.rig.now) (g.R.Rig.counts c.flush.new.rig) c.flush.ensures.calls c.flush.ensures.snapshot_calls)))
+    let now = c.in-Ok.ensures.committed t one s kept in (
+      _,
+      c.write_reply.ensures.text,
+      replies_flush (g.F.Fingerprint.printed c.args.store.now.print) (sizes_of c.args.store.now.store.journal.geo) c.flush.new.self.store (g.R.Rig.world c.flush.new.rig) (CostsLines c.args.store.now.store c.flush.new.self.store) (g.R.Rig.counts c.args.rig.now) (g.R.Rig.counts c.flush.new.rig) c.flush.ensures.frame.0 one s c.in-Ok.count (search rules) c.write_reply.ensures.line (c.in-Ok.ensures.count.0 ∙ sym kept.holds.means.lists.counted) now
+          (flushed_costs c.args.store.now.store c.flush.new.self.store (g.R.Rig.counts c.args.rig.now) (g.R.Rig.counts c.flush.new.rig) c.flush.ensures.frame.0 c.flush.ensures.grows.same_geo c.in-Ok.count (omega (arith, ap (λ (v : StoreView). length v.dirty) c.in-Ok.ensures.store)) (no_disk _ _ _ _ (g.R.Rig.counts c.args.rig.now) (g.R.Rig.counts c.flush.new.rig) c.flush.ensures.calls c.flush.ensures.snapshot_calls)),
+    )
 
 pub returns-in-Err-clause-answer : goal.returns-in-Err-clause-answer
 returns-in-Err-clause-answer g c = λ t one s kept.

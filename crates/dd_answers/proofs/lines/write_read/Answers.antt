@@ -1,8 +1,6 @@
-use Rattle.std.proofs.Common.{rules, ◌≡◌, inl, inr, ℕ, length, refl, sym, ◌∙◌, ap, subst, arith}
-use Rattle.std.specs.Prelude.{Option}
+use Rattle.std.proofs.Common.{inl, inr, refl, sym, subst, arith}
 use Rattle.dd_model.specs.declared.done.Done.{Done}
-use Rattle.dd_script.specs.Command.{read as a_read, write as a_write, flush as a_flush, clean as a_clean, tick as a_tick, quit as a_quit, after}
-use Rattle.dd_store.specs.Keeping.{StoreView}
+use Rattle.dd_script.specs.Command.{read as a_read, after}
 use Rattle.dd_store.specs.Meaning.{sizes_of}
 use Rattle.dd_answers.specs.Costs.{CostsLines}
 use Rattle.dd_answers.proofs.Costs.{begun_costs, fault_costs, read_costs, IsRead, is_read}
@@ -18,9 +16,12 @@ returns-in-Err-clause-crash g c = λ t one s kept. within_call (g.F.Fingerprint.
 pub returns-in-Ok-clause-answer : goal.returns-in-Ok-clause-answer
 returns-in-Ok-clause-answer g c = λ t one s kept.
     let left = (c.in-Ok.ensures.serves t one s kept).leaves in
-    let told = c.in-Ok.ensures.answer t one s kept in
-    (_, c.reply_read.ensures.text, replies_read (g.F.Fingerprint.printed c.args.store.now.print) (sizes_of c.args.store.now.store.journal.geo) c.read.new.self.store (g.R.Rig.world c.read.new.rig) (CostsLines c.args.store.now.store c.read.new.self.store) (g.R.Rig.counts c.args.rig.now) (g.R.Rig.counts c.read.new.rig) c.read.ensures.frame.0 one s c.args.address c.read.new.into c.in-Ok.done c.reply_read.ensures.line told.0 told.1 left
-    (read_costs c.args.store.now.store c.read.new.self.store (g.R.Rig.counts c.args.rig.now) (g.R.Rig.counts c.read.new.rig) c.read.ensures.frame.0 c.read.ensures.grows.same_geo c.args.address c.read.new.into c.in-Ok.done (subst IsRead (sym told.1.kind) (is_read _ _)) c.in-Ok.ensures.rows c.in-Ok.ensures.hit_reads c.in-Ok.ensures.loads c.in-Ok.ensures.calm))
+    let told = c.in-Ok.ensures.answer t one s kept in (
+      _,
+      c.reply_read.ensures.text,
+      replies_read (g.F.Fingerprint.printed c.args.store.now.print) (sizes_of c.args.store.now.store.journal.geo) c.read.new.self.store (g.R.Rig.world c.read.new.rig) (CostsLines c.args.store.now.store c.read.new.self.store) (g.R.Rig.counts c.args.rig.now) (g.R.Rig.counts c.read.new.rig) c.read.ensures.frame.0 one s c.args.address c.read.new.into c.in-Ok.done c.reply_read.ensures.line told.0 told.1 left
+          (read_costs c.args.store.now.store c.read.new.self.store (g.R.Rig.counts c.args.rig.now) (g.R.Rig.counts c.read.new.rig) c.read.ensures.frame.0 c.read.ensures.grows.same_geo c.args.address c.read.new.into c.in-Ok.done (subst IsRead (sym told.1.kind) (is_read _ _)) c.in-Ok.ensures.rows c.in-Ok.ensures.hit_reads c.in-Ok.ensures.loads c.in-Ok.ensures.calm),
+    )
 
 pub returns-in-Err-clause-answer : goal.returns-in-Err-clause-answer
 returns-in-Err-clause-answer g c = λ t one s kept.

@@ -1,4 +1,4 @@
-use Rattle.std.proofs.Common.{◌≡◌, sym, ◌∙◌, ap}
+use Rattle.std.proofs.Common.{sym, ◌∙◌, ap}
 use Rattle.dd_model.specs.declared.orphans.Orphans.{Orphans}
 use Rattle.dd_script.specs.Text.{ended, stat_text}
 use Rattle.dd_answers.proofs.lines.write_stat.Goals as goal

@@ -1,8 +1,6 @@
-use Rattle.std.proofs.Common.{rules, ◌≡◌, inl, inr, ℕ, length, refl, sym, ◌∙◌, ap, subst, arith}
+use Rattle.std.proofs.Common.{ℕ, refl, arith}
 use Rattle.std.specs.Prelude.{Option}
-use Rattle.dd_model.specs.declared.done.Done.{Done}
-use Rattle.dd_script.specs.Command.{read as a_read, write as a_write, flush as a_flush, clean as a_clean, tick as a_tick, quit as a_quit, after}
-use Rattle.dd_store.specs.Keeping.{StoreView}
+use Rattle.dd_script.specs.Command.{tick as a_tick}
 use Rattle.dd_store.specs.Meaning.{sizes_of}
 use Rattle.dd_answers.specs.Costs.{CostsLines}
 use Rattle.dd_answers.proofs.Costs.{begun_costs, ticked_costs, cleans_by, fault_costs}
@@ -16,9 +14,12 @@ pub returns-in-Err-clause-crash : goal.returns-in-Err-clause-crash
 returns-in-Err-clause-crash g c = λ t one s kept. within_call (g.F.Fingerprint.printed c.args.store.now.print) one s (g.R.Rig.world c.args.rig.now) (c.tick.ensures.serves t one s kept).crash (c.tick.ensures.unsaid t)
 
 pub returns-in-Ok-clause-answer : goal.returns-in-Ok-clause-answer
-returns-in-Ok-clause-answer g c = λ t one s kept.
-    (_, c.write_reply.ensures.text, replies_tick (g.F.Fingerprint.printed c.args.store.now.print) (sizes_of c.args.store.now.store.journal.geo) c.tick.new.self.store (g.R.Rig.world c.tick.new.rig) (CostsLines c.args.store.now.store c.tick.new.self.store) (g.R.Rig.counts c.args.rig.now) (g.R.Rig.counts c.tick.new.rig) c.tick.ensures.frame.0 one s c.write_reply.ensures.line (c.in-Ok.ensures.serves t one s kept).leaves
-    (ticked_costs c.args.store.now.store c.tick.new.self.store (g.R.Rig.counts c.args.rig.now) (g.R.Rig.counts c.tick.new.rig) c.tick.ensures.frame.0 c.tick.ensures.grows.same_geo c.in-Ok.field-0 c.in-Ok.ensures.oldest c.in-Ok.ensures.ages c.in-Ok.ensures.cleans c.in-Ok.ensures.loads))
+returns-in-Ok-clause-answer g c = λ t one s kept. (
+  _,
+  c.write_reply.ensures.text,
+  replies_tick (g.F.Fingerprint.printed c.args.store.now.print) (sizes_of c.args.store.now.store.journal.geo) c.tick.new.self.store (g.R.Rig.world c.tick.new.rig) (CostsLines c.args.store.now.store c.tick.new.self.store) (g.R.Rig.counts c.args.rig.now) (g.R.Rig.counts c.tick.new.rig) c.tick.ensures.frame.0 one s c.write_reply.ensures.line (c.in-Ok.ensures.serves t one s kept).leaves
+      (ticked_costs c.args.store.now.store c.tick.new.self.store (g.R.Rig.counts c.args.rig.now) (g.R.Rig.counts c.tick.new.rig) c.tick.ensures.frame.0 c.tick.ensures.grows.same_geo c.in-Ok.field-0 c.in-Ok.ensures.oldest c.in-Ok.ensures.ages c.in-Ok.ensures.cleans c.in-Ok.ensures.loads),
+)
 
 pub returns-in-Err-clause-answer : goal.returns-in-Err-clause-answer
 returns-in-Err-clause-answer g c = λ t one s kept.

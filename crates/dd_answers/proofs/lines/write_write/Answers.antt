@@ -1,8 +1,6 @@
-use Rattle.std.proofs.Common.{rules, ◌≡◌, inl, inr, ℕ, length, refl, sym, ◌∙◌, ap, subst, arith}
-use Rattle.std.specs.Prelude.{Option}
+use Rattle.std.proofs.Common.{refl, sym, subst, arith}
 use Rattle.dd_model.specs.declared.done.Done.{Done}
-use Rattle.dd_script.specs.Command.{read as a_read, write as a_write, flush as a_flush, clean as a_clean, tick as a_tick, quit as a_quit, after}
-use Rattle.dd_store.specs.Keeping.{StoreView}
+use Rattle.dd_script.specs.Command.{write as a_write, after}
 use Rattle.dd_store.specs.Meaning.{sizes_of}
 use Rattle.dd_answers.specs.Costs.{CostsLines}
 use Rattle.dd_answers.proofs.Costs.{begun_costs, fault_costs, write_costs, IsWrite, is_write}
@@ -18,9 +16,12 @@ returns-in-Err-clause-crash g c = λ t one s kept. within_call (g.F.Fingerprint.
 pub returns-in-Ok-clause-answer : goal.returns-in-Ok-clause-answer
 returns-in-Ok-clause-answer g c = λ t one s kept.
     let left = (c.in-Ok.ensures.serves t one s kept).leaves in
-    let told = c.in-Ok.ensures.answer t one s kept in
-    (_, c.write_reply.ensures.text, replies_write (g.F.Fingerprint.printed c.args.store.now.print) (sizes_of c.args.store.now.store.journal.geo) c.write.new.self.store (g.R.Rig.world c.write.new.rig) (CostsLines c.args.store.now.store c.write.new.self.store) (g.R.Rig.counts c.args.rig.now) (g.R.Rig.counts c.write.new.rig) c.write.ensures.frame.0 one s c.args.address c.args.block.now c.in-Ok.done c.write_reply.ensures.line told left
-    (write_costs c.args.store.now.store c.write.new.self.store (g.R.Rig.counts c.args.rig.now) (g.R.Rig.counts c.write.new.rig) c.write.ensures.frame.0 c.write.ensures.grows.same_geo c.in-Ok.done (subst IsWrite (sym told.kind) (is_write _)) c.in-Ok.ensures.few c.in-Ok.ensures.loads c.in-Ok.ensures.calm))
+    let told = c.in-Ok.ensures.answer t one s kept in (
+      _,
+      c.write_reply.ensures.text,
+      replies_write (g.F.Fingerprint.printed c.args.store.now.print) (sizes_of c.args.store.now.store.journal.geo) c.write.new.self.store (g.R.Rig.world c.write.new.rig) (CostsLines c.args.store.now.store c.write.new.self.store) (g.R.Rig.counts c.args.rig.now) (g.R.Rig.counts c.write.new.rig) c.write.ensures.frame.0 one s c.args.address c.args.block.now c.in-Ok.done c.write_reply.ensures.line told left
+          (write_costs c.args.store.now.store c.write.new.self.store (g.R.Rig.counts c.args.rig.now) (g.R.Rig.counts c.write.new.rig) c.write.ensures.frame.0 c.write.ensures.grows.same_geo c.in-Ok.done (subst IsWrite (sym told.kind) (is_write _)) c.in-Ok.ensures.few c.in-Ok.ensures.loads c.in-Ok.ensures.calm),
+    )
 
 pub returns-in-Err-clause-answer : goal.returns-in-Err-clause-answer
 returns-in-Err-clause-answer g c = λ t one s kept.

@@ -1,10 +1,9 @@
-use Rattle.std.proofs.Common.{rules, ◌≡◌, ◌<◌, ℕ, List, take, sym, ◌∙◌, subst}
+use Rattle.std.proofs.Common.{rules, ◌<◌, ℕ, take, sym, ◌∙◌, subst}
 use Rattle.dd_rig.proofs.Falling.{frame_trans}
 use Rattle.dd_rig.specs.World.{World}
 use Rattle.dd_record.specs.declared.row.ARow.{ARow}
-use Rattle.dd_loop.specs.Saying.{SaysPiece}
 use Rattle.dd_answers.specs.Listed.{a_entry}
-use Rattle.dd_answers.proofs.Pieces.{SaidTo, at_row, at_end, said_first, said_listed, said_on, said_cut, said_all, says_all, rows_left, walk_shrinks}
+use Rattle.dd_answers.proofs.Pieces.{at_row, at_end, said_listed, said_on, said_cut, said_all, says_all, rows_left, walk_shrinks}
 use Rattle.dd_answers.proofs.listing.say_addresses.Goals as goal
 
 abbrev key : ARow → ℕ

@@ -1,4 +1,4 @@
-use Rattle.std.proofs.Common.{◌≡◌, ℕ, List, ◌++◌, codes, subst, ◌∙◌, ap}
+use Rattle.std.proofs.Common.{ℕ, List, ◌++◌, codes, subst, ◌∙◌, ap}
 use Rattle.std.specs.List.{flat_map}
 use Rattle.dd_rig.specs.Clock.{Clock}
 use Rattle.dd_rig.specs.World.{World, say}

@@ -1,15 +1,11 @@
-use Rattle.std.proofs.Common.{◌≡◌, ◌≢◌, ◌⊎◌, ℕ, ◌≤◌, Bool, List, subst, sym, ◌∙◌}
+use Rattle.std.proofs.Common.{◌≡◌, ◌≢◌, ◌⊎◌, ℕ, ◌≤◌, List, subst, sym, ◌∙◌}
 use Rattle.dd_block.specs.declared.print.Fp.{Fp}
-use Rattle.dd_rig.specs.Clock.{Elapses}
-use Rattle.dd_rig.specs.World.{World}
 use Rattle.dd_rig.proofs.Moments.{goes_on, widens}
 use Rattle.dd_model.specs.State.{Sizes}
 use Rattle.dd_script.specs.Command.{Command}
 use Rattle.dd_script.specs.Output.{dialect_of}
 use Rattle.dd_script.specs.Script.{commands_of}
 use Rattle.dd_store.specs.Meaning.{sizes_of}
-use Rattle.dd_loop.specs.declared.ending.Ending.{Ending}
-use Rattle.dd_loop.specs.declared.ending.Ending.TheVariants.{Served}
 use Rattle.dd_loop.specs.Saying.{IsIdle}
 use Rattle.dd_answers.specs.Serving.{IsBounded, IsServed}
 use Rattle.dd_answers.proofs.Ended.{caused_later, memory_status, opened_status, quiet_ending, served_status}

@@ -1,17 +1,16 @@
-use Rattle.std.proofs.Common.{◌≡◌, ◌≢◌, ◌⊎◌, inl, inr, ℕ, ◌≤◌, List, refl, sym, ◌∙◌, ap, subst}
+use Rattle.std.proofs.Common.{◌≡◌, ◌≢◌, inl, inr, ℕ, List, sym, ◌∙◌, ap, subst}
 use Rattle.dd_block.specs.declared.print.Fp.{Fp}
 use Rattle.dd_block.specs.declared.geometry.Geometry.{Geometry}
 use Rattle.dd_rig.specs.Clock.{Elapses}
 use Rattle.dd_rig.specs.Counts.{up_to}
-use Rattle.dd_rig.specs.World.{World, Outcome, MayLeave}
+use Rattle.dd_rig.specs.World.{World}
 use Rattle.dd_rig.proofs.Moments.{goes_on, widens}
-use Rattle.dd_model.specs.State.{State, Sizes}
-use Rattle.dd_recover.specs.Opening.{Opens}
+use Rattle.dd_model.specs.State.{Sizes}
 use Rattle.dd_script.specs.Output.{dialect_of}
 use Rattle.dd_script.specs.Reading.{IsTakenTo}
 use Rattle.dd_script.specs.Script.{commands_of}
 use Rattle.dd_store.specs.Keeping.{Kept}
-use Rattle.dd_store.specs.Meaning.{Stands, sizes_of}
+use Rattle.dd_store.specs.Meaning.{sizes_of}
 use Rattle.dd_loop.specs.declared.ending.Ending.{Ending}
 use Rattle.dd_loop.specs.Ending.{ending_line, status_of, SaysLast, WithinLast}
 use Rattle.dd_answers.specs.Headline.{Headline}

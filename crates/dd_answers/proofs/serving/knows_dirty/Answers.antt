@@ -1,4 +1,4 @@
-use Rattle.std.proofs.Common.{◌≡◌, ℕ, ◌≤◌, false, List, [], length, sym, ◌∙◌, ap, subst, arith}
+use Rattle.std.proofs.Common.{◌≡◌, false, length, ◌∙◌, ap, subst, arith}
 use Rattle.dd_record.specs.Table.{Table, is_dirty_at}
 use Rattle.dd_model.proofs.Restored.{dirty_listed, none_dirty_at}
 use Rattle.dd_answers.proofs.serving.knows_dirty.Goals as goal

@@ -1,11 +1,11 @@
-use Rattle.std.proofs.Common.{◌≤◌, ℕ, List, length, ap, subst, arith, Ok, Err}
-use Rattle.std.specs.Prelude.{Result, IfOk, IfErr, OnOk}
+use Rattle.std.proofs.Common.{◌≤◌, ℕ, List, length, ap, subst, arith}
+use Rattle.std.specs.Prelude.{IfOk, IfErr, OnOk}
 use Rattle.dd_block.specs.declared.geometry.Geometry.{Geometry}
 use Rattle.dd_block.specs.declared.print.Fp.{Fp}
 use Rattle.dd_rig.specs.Clock.{Elapses}
 use Rattle.dd_rig.specs.Counts.{Rose}
 use Rattle.dd_rig.specs.World.{World}
-use Rattle.dd_model.specs.State.{Sizes, State}
+use Rattle.dd_model.specs.State.{Sizes}
 use Rattle.dd_script.specs.Command.{Command}
 use Rattle.dd_script.specs.Output.{dialect_of}
 use Rattle.dd_script.specs.Reading.{Held, left, fuel, IsTakenTo}

@@ -1,9 +1,7 @@
 use Rattle.std.proofs.Common.{◌≡◌, List, ℕ, ◌∷◌, [], map, sym, subst, ◌∙◌, Some}
 use Rattle.dd_rig.specs.World.{World}
 use Rattle.dd_rig.specs.declared.tallies.Counts.{Counts}
-use Rattle.dd_model.specs.State.{State}
 use Rattle.dd_loop.specs.Terms.{Terms}
-use Rattle.dd_loop.specs.Standing.{AllStand}
 use Rattle.dd_loop.specs.Answering.{Pays, CutsLine}
 use Rattle.dd_loop.specs.declared.halt.Halt.{Halt}
 use Rattle.dd_loop.specs.declared.halt.Halt.TheVariants.{Output}

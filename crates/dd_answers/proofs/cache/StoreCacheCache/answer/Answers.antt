@@ -1,6 +1,5 @@
 use Rattle.std.proofs.Common.{ℕ, List, sym, ap, subst}
 use Rattle.dd_block.specs.declared.print.Fp.{Fp}
-use Rattle.dd_model.specs.State.{State}
 use Rattle.dd_script.specs.Line.{told}
 use Rattle.dd_store.specs.Keeping.{Kept}
 use Rattle.dd_store.specs.Meaning.{sizes_of}

@@ -1,5 +1,4 @@
-use Rattle.std.proofs.Common.{◌≡◌, ℕ, List, ap, subst, sym, ◌∙◌}
-use Rattle.std.specs.Prelude.{OnOk}
+use Rattle.std.proofs.Common.{ℕ, List, ap, subst, ◌∙◌}
 use Rattle.dd_block.specs.declared.print.Fp.{Fp}
 use Rattle.dd_layout.specs.Layout.{slot_block}
 use Rattle.dd_rig.specs.World.{World, say}

@@ -1,4 +1,4 @@
-use Rattle.std.proofs.Common.{◌≡◌, subst, ◌∙◌, ap}
+use Rattle.std.proofs.Common.{subst, ◌∙◌, ap}
 use Rattle.dd_record.specs.Table.{RowsFit}
 use Rattle.dd_model.specs.Orphans.{orphans_of}
 use Rattle.dd_model.proofs.Orphaned.{orphans_shown}
