@@ -1,0 +1,3 @@
+pub mod Entries
+pub mod Matching
+pub mod Walks

@@ -1,0 +1,168 @@
+//! The listed addresses, in linked lists, found by their number.
+ghost use Rattle.std.specs.Prelude.{◌≡◌, ℕ, ◌+◌, ◌-◌, ◌<◌, ◌≤◌, [], Some, None, true, false, map, take, replicate, length, is_some, option_map, option_and_then, if◌then◌else◌, ◌&&◌, ◌==◌, not, slice_get, IfOk, IfSome};
+ghost use Rattle.std.specs.List.{list_any, AllByRecursion};
+ghost use Rattle.dd_record.specs.Table.{is_slot, is_link, a_row};
+ghost use Rattle.dd_record.specs.Listed.{a_walk};
+ghost use Rattle.dd_lists.specs.Lists.{is_in, list_at};
+ghost use Rattle.dd_lists.specs.Nodes.{is_live};
+ghost use Rattle.dd_meta.specs.Matching.{IsBelow};
+ghost use Rattle.dd_meta.specs.Walks.{but, next_of, IsWalked};
+ghost use Rattle.dd_meta.specs.Entries.{rows_of, node_of, row_of, row_named, owed_to, is_listed_address, last_address, Fronts, Writes, unlinked};
+
+use crate::lanes::{ALL, address_of, refer, unlink_referrers, write};
+use dd_block::Fp;
+use dd_index::Index;
+use dd_lists::{Lane, Nodes};
+use dd_record::{ARow, Link};
+use std::alloc::{AllocError, Global};
+use std::marker::Model;
+
+/// The listed addresses with their rows, the most recently referenced first, and the dirty ones, oldest first.
+///
+/// A node stands in the recency list, in the waiting list where it is dirty, and among the referrers of its slot
+/// where it has one: the dirty ones of a slot in one list, the clean ones in another. A row that is linked to the
+/// zero block has no slot and stands among no referrers.
+///
+/// `unlink_all` takes steps in proportion to the addresses linked to the slot; each other call a fixed number,
+/// expected, and a chain of the index where it is given an address.
+#[derive(Drop)]
+pub struct MetaCache {
+    acap: u32,
+    slots: u32,
+    nodes: Nodes<ARow>,
+    index: Index,
+}
+
+impl Model for MetaCache {
+    ghost use Rattle.dd_meta.specs.Entries.{Meta};
+
+    ghost Value = { Meta };
+
+    ghost use Rattle.dd_meta.specs.Matching.{shown, Matches};
+
+    ghost view = { λ m. shown m.acap m.slots m.nodes };
+
+    ghost invariant = { λ m. Matches m.acap m.slots m.nodes m.index };
+}
+
+impl MetaCache {
+    /// No addresses, room for `acap` of them, and links to slots below `slots`.
+    ///
+    /// Where `acap` and twice `slots` don't fit 32 bits together, this is answered as want of memory.
+    pub fn new(alloc: Global, acap: u32, slots: u32) -> Result<Self, AllocError>
+        requires { 1 ≤ acap }
+        ensures { IfOk result (λ made. made ≡ record { acap = acap; slots = slots; entries = []; dirty = []; owed = replicate slots [] }) }
+    {
+        let Some(lists) = slots.checked_add(slots) else {
+            return Err(AllocError);
+        };
+        Ok(MetaCache {
+            acap,
+            slots,
+            nodes: Nodes::reserve(alloc, acap, [1, lists, 1])?,
+            index: Index::new(alloc, acap, acap)?,
+        })
+    }
+
+    /// How many addresses are listed.
+    pub fn len(&self) -> u32
+        ensures { result ≡ length self.now.entries }
+    {
+        self.nodes.len()
+    }
+
+    /// The node of an address; None exactly where it isn't listed.
+    pub fn find(&self, address: u32) -> Option<u32>
+        ensures node { result ≡ node_of address self.now }
+        ensures row { option_and_then (λ node. row_of node self.now) result ≡ a_row address (rows_of self.now) }
+    {
+        self.index.first(u64::from(address))
+    }
+
+    /// The row of a node.
+    pub fn row(&self, node: u32) -> ARow
+        requires { is_some (row_of node self.now) ≡ true }
+        ensures { row_of node self.now ≡ Some result }
+    {
+        *self.nodes.get(node)
+    }
+
+    /// The address at the back, which falls off where this one is referenced: where it isn't listed and the list is full.
+    pub fn victim(&self, address: u32) -> Option<u32>
+        ensures { result ≡ (if is_listed_address address self.now then None else if length self.now.entries == self.now.acap then last_address self.now else None) }
+    {
+        if self.is_full_without(address) {
+            address_of(&self.nodes, self.nodes.back(Lane::Recency, ALL))
+        } else {
+            None
+        }
+    }
+
+    // Whether an address that isn't listed finds no room.
+    fn is_full_without(&self, address: u32) -> bool
+        ensures { result ≡ (not (is_listed_address address self.now) && length self.now.entries == self.now.acap) }
+    {
+        self.find(address).is_none() && self.nodes.len() == self.acap
+    }
+
+    /// Makes the row of a linked address dirty. It is the newest of the dirty ones, unless it was dirty before.
+    pub fn set_dirty(&mut self, node: u32)
+        requires listed { is_some (row_of node self.old) ≡ true }
+        requires linked { is_link (row_named node self.old).link ≡ true }
+        ensures { Writes self.old self.new node (record (row_named node self.old) { dirty = true }) }
+    {
+        let row = *self.nodes.get(node);
+        write(
+            &mut self.nodes,
+            self.slots,
+            node,
+            ARow { dirty: true, ..row },
+        );
+    }
+
+    /// Makes the row of an address clean.
+    pub fn set_clean(&mut self, node: u32)
+        requires { is_some (row_of node self.old) ≡ true }
+        ensures { Writes self.old self.new node (record (row_named node self.old) { dirty = false }) }
+    {
+        let row = *self.nodes.get(node);
+        write(
+            &mut self.nodes,
+            self.slots,
+            node,
+            ARow {
+                dirty: false,
+                ..row
+            },
+        );
+    }
+
+    /// Takes the links to a slot, to which no dirty address is linked.
+    pub fn unlink_all(&mut self, slot: u32)
+        requires below { slot < self.old.slots }
+        requires clean { AllByRecursion (λ row. is_slot slot row.link ≡ true → row.dirty ≡ false) (rows_of self.old) }
+        ensures { self.new ≡ record self.old { entries = map (unlinked slot) self.old.entries } }
+    {
+        unlink_referrers(&mut self.nodes, self.slots, slot);
+    }
+
+    /// The address that became dirty longest ago.
+    pub fn oldest_dirty(&self) -> Option<u32>
+        ensures { result ≡ slice_get self.now.dirty 0 }
+    {
+        address_of(&self.nodes, self.nodes.back(Lane::Waiting, ALL))
+    }
+
+    /// The first address, or the one behind an address that is listed.
+    pub fn next(&self, address: Option<u32>) -> Option<u32>
+        ensures { result ≡ option_map (λ row. row.address) (a_walk address (rows_of self.now)) }
+    {
+        match address {
+            None => address_of(&self.nodes, self.nodes.front(Lane::Recency, ALL)),
+            Some(listed) => match self.index.first(u64::from(listed)) {
+                Some(node) => address_of(&self.nodes, self.nodes.next(Lane::Recency, node)),
+                None => None,
+            },
+        }
+    }
+}
