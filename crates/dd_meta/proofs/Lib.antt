@@ -1,3 +1,6 @@
+pub mod Adding
+pub mod Dropping
+pub mod Fronting
 pub mod Homes
 pub mod Marking
 pub mod Numbers

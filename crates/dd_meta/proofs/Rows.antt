@@ -59,7 +59,7 @@ find_itself n (x ∷ xs) h =
     step true e later = ap Some (eqb-true x n e)
     step false e later = later
 
-got_within : (xs : List ℕ) (i d : ℕ) → i < length xs → slice_get xs i ≡ Some (get_or xs i d)
+pub got_within : (xs : List ℕ) (i d : ℕ) → i < length xs → slice_get xs i ≡ Some (get_or xs i d)
 got_within [] i d h = absurd (omega arith)
 got_within (x ∷ xs) zero d h = refl
 got_within (x ∷ xs) (suc i) d h = got_within xs i d (omega arith)
@@ -245,6 +245,16 @@ module _ {acap slots : ℕ} {nodes : Nodes ARow} {index : Index} (k : Matches ac
       kept : (o : Option Entry) → is_some o ≡ is_some (option_map (λ (e : Entry). e.node) o)
       kept None = refl
       kept (Some e) = refl
+
+  pub out_of : (address : ℕ) → node_of address (shown acap slots nodes) ≡ None → is_listed_address address (shown acap slots nodes) ≡ false
+  out_of address none = listed_address address ∙ ap is_some none
+
+  -- the node that the index gives for an address
+  pub first_in : (address key n : ℕ) (o : Option ℕ) → o ≡ slice_get (nodes_of key index) 0 → key ≡ address → o ≡ Some n → (is_in n (listed nodes) ≡ true) × (address_of nodes n ≡ address)
+  first_in address key n o first same is = found_in address n (sym (found_is address) ∙ ap (λ a. slice_get (nodes_of a index) 0) (sym same) ∙ sym first ∙ is)
+
+  pub first_out : (address key : ℕ) (o : Option ℕ) → o ≡ slice_get (nodes_of key index) 0 → key ≡ address → o ≡ None → is_listed_address address (shown acap slots nodes) ≡ false
+  first_out address key o first same is = out_of address (sym (found_is address) ∙ ap (λ a. slice_get (nodes_of a index) 0) (sym same) ∙ sym first ∙ is)
 
   pub entry_count : length (shown acap slots nodes).entries ≡ node_count nodes
   entry_count = length-map (listed nodes) (λ node. record { node = node; row = row_at nodes node }) ∙ sym k.counted

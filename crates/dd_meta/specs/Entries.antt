@@ -61,6 +61,16 @@ dirty_by row dirty = if row.dirty then with_dirty row.address dirty else without
 abbrev pub owed_by : ℕ → ARow → List ℕ → List ℕ
 owed_by slot row owed = if row.dirty && is_slot slot row.link then row.address ∷ without row.address owed else without row.address owed
 
+-- an address in front of the others, with the row that it has or a blank one
+pub record Brings (old new : Meta) (address node : ℕ) : Type 0 where
+  pub row : ARow
+  pub is : row.address ≡ address
+  pub entries : new.entries ≡ record { node = node; row = row } ∷ filter (λ entry. not (entry.row.address == address)) old.entries
+  pub dirty : new.dirty ≡ old.dirty
+  pub owed : new.owed ≡ old.owed
+  pub acap : new.acap ≡ old.acap
+  pub slots : new.slots ≡ old.slots
+
 -- the row in front of the others, at some node
 pub record Fronts (old new : Meta) (row : ARow) : Type 0 where
   pub node : ℕ

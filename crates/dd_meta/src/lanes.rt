@@ -25,7 +25,7 @@ fn home_of(row: ARow, slots: u32) -> Option<u32>
 }
 
 // Takes a node out of the referrers that have it.
-fn leave(nodes: &mut Nodes<ARow>, node: u32)
+pub fn leave(nodes: &mut Nodes<ARow>, node: u32)
     requires { node < length nodes.old.values }
     ensures { nodes.new ≡ record nodes.old { referrers = taken_out node nodes.old.referrers } }
 {
@@ -36,7 +36,7 @@ fn leave(nodes: &mut Nodes<ARow>, node: u32)
 }
 
 // Takes a node out of the referrers that have it, and puts it in front of these.
-pub fn refer(nodes: &mut Nodes<ARow>, node: u32, home: Option<u32>)
+fn refer(nodes: &mut Nodes<ARow>, node: u32, home: Option<u32>)
     requires live { is_live node nodes.old ≡ true }
     requires home { IfSome home (λ list. list < length nodes.old.referrers) }
     requires room { node < length nodes.old.values }
@@ -50,7 +50,7 @@ pub fn refer(nodes: &mut Nodes<ARow>, node: u32, home: Option<u32>)
 }
 
 // Puts a node in front of those that wait, unless it waits there, or takes it away.
-pub fn wait(nodes: &mut Nodes<ARow>, node: u32, dirty: bool)
+fn wait(nodes: &mut Nodes<ARow>, node: u32, dirty: bool)
     requires live { is_live node nodes.old ≡ true }
     requires one { length nodes.old.waiting ≡ 1 }
     requires room { node < length nodes.old.values }

@@ -7,9 +7,9 @@ ghost use Rattle.dd_lists.specs.Lists.{is_in, list_at};
 ghost use Rattle.dd_lists.specs.Nodes.{is_live};
 ghost use Rattle.dd_meta.specs.Matching.{IsBelow};
 ghost use Rattle.dd_meta.specs.Walks.{but, next_of, IsWalked};
-ghost use Rattle.dd_meta.specs.Entries.{rows_of, node_of, row_of, row_named, owed_to, is_listed_address, last_address, Fronts, Writes, unlinked};
+ghost use Rattle.dd_meta.specs.Entries.{rows_of, node_of, row_of, row_named, owed_to, is_listed_address, last_address, Brings, Fronts, Writes, unlinked};
 
-use crate::lanes::{ALL, address_of, refer, unlink_referrers, write};
+use crate::lanes::{ALL, address_of, leave, unlink_referrers, write};
 use dd_block::Fp;
 use dd_index::Index;
 use dd_lists::{Lane, Nodes};
@@ -135,6 +135,69 @@ impl MetaCache {
                 ..row
             },
         );
+    }
+
+    /// Puts an address in front with this link, dirtiness and fingerprint.
+    ///
+    /// An address that becomes dirty is the newest of the dirty ones; one that was dirty and stays so keeps its place.
+    pub fn front(&mut self, address: u32, link: Link, dirty: bool, fp: Fp)
+        requires room { is_listed_address address self.old ≡ false → length self.old.entries < self.old.acap }
+        requires linked { dirty ≡ true → is_link link ≡ true }
+        requires below { IsBelow self.old.slots link }
+        ensures { Fronts self.old self.new (record { address = address; link = link; dirty = dirty; fp = fp }) }
+    {
+        let node = self.bring(address, fp);
+        let row = ARow {
+            address,
+            link,
+            dirty,
+            fp,
+        };
+        write(&mut self.nodes, self.slots, node, row);
+    }
+
+    // The node of an address that is in front now. One that was not listed has this fingerprint, and no link.
+    fn bring(&mut self, address: u32, fp: Fp) -> u32
+        requires { is_listed_address address self.old ≡ false → length self.old.entries < self.old.acap }
+        ensures { Brings self.old self.new address result }
+    {
+        match self.index.first(u64::from(address)) {
+            Some(node) => {
+                self.nodes.move_front(Lane::Recency, node);
+                node
+            }
+            None => {
+                let link = Link::Lost;
+                let dirty = false;
+                let node = self.nodes.add(ARow {
+                    address,
+                    link,
+                    dirty,
+                    fp,
+                });
+                self.nodes.push_front(Lane::Recency, ALL, node);
+                self.index.insert(u64::from(address), node);
+                node
+            }
+        }
+    }
+
+    /// Takes the back entry away, which isn't dirty.
+    pub fn drop_back(&mut self) -> ARow
+        requires some { 0 < length self.old.entries }
+        requires clean { IfSome (slice_get (rows_of self.old) (length (rows_of self.old) - 1)) (λ row. row.dirty ≡ false) }
+        ensures row { slice_get (rows_of self.old) (length (rows_of self.old) - 1) ≡ Some result }
+        ensures after { self.new ≡ record self.old { entries = take (length self.old.entries - 1) self.old.entries } }
+    {
+        match self.nodes.back(Lane::Recency, ALL) {
+            Some(node) => {
+                leave(&mut self.nodes, node);
+                self.nodes.unlink(Lane::Recency, node);
+                self.index.remove(node);
+                self.nodes.remove(node)
+            }
+            None => unreachable!(),
+        }
     }
 
     /// Takes the links to a slot, to which no dirty address is linked.
