@@ -6,6 +6,8 @@ pub mod Marking
 pub mod Numbers
 pub mod Owed
 pub mod Rows
+pub mod Stepping
 pub mod Unlinking
 pub mod Waiting
+pub mod Walking
 pub mod Writing

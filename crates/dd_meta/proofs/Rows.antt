@@ -1,5 +1,5 @@
 -- What a metadata cache shows.
-use Rattle.std.proofs.Common.{◌≡◌, inl, inr, ℕ, zero, suc, ◌+◌, ◌-◌, ◌<◌, ◌^◌, ◌==◌, Bool, true, false, List, [], ◌∷◌, length, map, refl, sym, ◌∙◌, ap, subst, arith, Option, Some, None, get_or, cond, slice_get, replicate, take, is_some, count_by, reverse}
+use Rattle.std.proofs.Common.{◌≡◌, ◌≢◌, inl, inr, ℕ, zero, suc, ◌+◌, ◌-◌, ◌<◌, ◌^◌, ◌==◌, Bool, true, false, List, [], ◌∷◌, length, map, refl, sym, ◌∙◌, ap, subst, arith, Option, Some, None, get_or, cond, slice_get, replicate, take, is_some, count_by, reverse}
 use Rattle.std.specs.Prelude.{find, ◌||◌, ◌&&◌, option_map, option_and_then, unwrap_or}
 use Rattle.std.specs.List.{list_any, IsDistinct}
 use Rattle.std.proofs.lemmas.Bool.{eqb-true, eqb-false, eq-eqb, ne_eqb, both_ways, and_parts}
@@ -165,6 +165,9 @@ module _ {acap slots : ℕ} {nodes : Nodes ARow} {index : Index} (k : Matches ac
           let found = find_in (λ n. n == node) (listed nodes) n e in
           ap (λ i. Some (row_at nodes i)) (eqb-true n node found.1) ∙ ap (λ o. Some (unwrap_or o blank)) value
 
+  pub found_some : (address n : ℕ) → node_of address (shown acap slots nodes) ≡ Some n → is_some (row_of n (shown acap slots nodes)) ≡ true
+  found_some address n h = ap is_some (row_is n ∙ ap (option_map (row_at nodes)) (find_itself n (listed nodes) (found_in address n h).0))
+
   -- the addresses at the ends
   pub last_is : option_map (λ n. (row_at nodes n).address) (slice_get (listed nodes) (length (listed nodes) - 1)) ≡ last_address (shown acap slots nodes)
   last_is =
@@ -179,10 +182,10 @@ module _ {acap slots : ℕ} {nodes : Nodes ARow} {index : Index} (k : Matches ac
       same None = refl
       same (Some n) = refl
 
-  pub first_is : option_map (λ n. (row_at nodes n).address) (slice_get (listed nodes) 0) ≡ option_map (λ (row : ARow). row.address) (slice_get (rows_of (shown acap slots nodes)) 0)
+  pub first_is : option_map (row_at nodes) (slice_get (listed nodes) 0) ≡ (slice_get (rows_of (shown acap slots nodes)) 0)
   first_is = by_list (listed nodes)
     where
-      by_list : (xs : List ℕ) → option_map (λ n. (row_at nodes n).address) (slice_get xs 0) ≡ option_map (λ (row : ARow). row.address) (slice_get (map (λ (e : Entry). e.row) (map (λ n. record { node = n; row = row_at nodes n }) xs)) 0)
+      by_list : (xs : List ℕ) → option_map (row_at nodes) (slice_get xs 0) ≡ (slice_get (map (λ (e : Entry). e.row) (map (λ n. record { node = n; row = row_at nodes n }) xs)) 0)
       by_list [] = refl
       by_list (x ∷ xs) = refl
 
@@ -193,33 +196,33 @@ module _ {acap slots : ℕ} {nodes : Nodes ARow} {index : Index} (k : Matches ac
 
   -- the row behind that of an address
   pub behind_is : (address n : ℕ) → is_in n (listed nodes) ≡ true → (row_at nodes n).address ≡ address
-      → option_map (λ m. (row_at nodes m).address) (behind n (listed nodes)) ≡ option_map (λ (row : ARow). row.address) (row_behind (λ row. row.address == address) (rows_of (shown acap slots nodes)))
+      → option_map (row_at nodes) (behind n (listed nodes)) ≡ (row_behind (λ row. row.address == address) (rows_of (shown acap slots nodes)))
   behind_is address n here is = go (listed nodes) here (λ m h e. k.single m n h here (e ∙ sym is))
     where
       go : (xs : List ℕ) → is_in n xs ≡ true → ((m : ℕ) → is_in m xs ≡ true → (row_at nodes m).address ≡ address → m ≡ n)
-          → option_map (λ m. (row_at nodes m).address) (behind n xs) ≡ option_map (λ (row : ARow). row.address) (row_behind (λ row. row.address == address) (map (λ (e : Entry). e.row) (map (λ m. record { node = m; row = row_at nodes m }) xs)))
+          → option_map (row_at nodes) (behind n xs) ≡ (row_behind (λ row. row.address == address) (map (λ (e : Entry). e.row) (map (λ m. record { node = m; row = row_at nodes m }) xs)))
       go [] h only = absurd (both_ways false refl h)
       go (x ∷ xs) h only = step (n == x) refl (λ later. go xs later (λ m i e. only m (in_later m x xs i) e))
         where
           rest : List ARow
           rest = map (λ (e : Entry). e.row) (map (λ m. record { node = m; row = row_at nodes m }) xs)
 
-          heads : (ys : List ℕ) → option_map (λ m. (row_at nodes m).address) (slice_get ys 0) ≡ option_map (λ (row : ARow). row.address) (slice_get (map (λ (e : Entry). e.row) (map (λ m. record { node = m; row = row_at nodes m }) ys)) 0)
+          heads : (ys : List ℕ) → option_map (row_at nodes) (slice_get ys 0) ≡ (slice_get (map (λ (e : Entry). e.row) (map (λ m. record { node = m; row = row_at nodes m }) ys)) 0)
           heads [] = refl
           heads (y ∷ ys) = refl
 
-          step : (b : Bool) → (n == x) ≡ b → (is_in n xs ≡ true → option_map (λ m. (row_at nodes m).address) (behind n xs) ≡ option_map (λ (row : ARow). row.address) (row_behind (λ row. row.address == address) rest))
-              → option_map (λ m. (row_at nodes m).address) (cond b (slice_get xs 0) (behind n xs)) ≡ option_map (λ (row : ARow). row.address) (cond ((row_at nodes x).address == address) (slice_get rest 0) (row_behind (λ row. row.address == address) rest))
+          step : (b : Bool) → (n == x) ≡ b → (is_in n xs ≡ true → option_map (row_at nodes) (behind n xs) ≡ (row_behind (λ row. row.address == address) rest))
+              → option_map (row_at nodes) (cond b (slice_get xs 0) (behind n xs)) ≡ (cond ((row_at nodes x).address == address) (slice_get rest 0) (row_behind (λ row. row.address == address) rest))
           step true e later =
               heads xs
-              ∙ sym (ap (λ t. option_map (λ (row : ARow). row.address) (cond t (slice_get rest 0) (row_behind (λ row. row.address == address) rest)))
+              ∙ sym (ap (λ t. (cond t (slice_get rest 0) (row_behind (λ row. row.address == address) rest)))
               (eq-eqb (row_at nodes x).address address (sym (ap (λ m. (row_at nodes m).address) (eqb-true n x e)) ∙ is)))
           step false e later =
               elim (in_cons n x xs h) [
                 | inl same ↦ absurd (eqb-false n x e same)
                 | inr there ↦
                     later there
-                    ∙ sym (ap (λ t. option_map (λ (row : ARow). row.address) (cond t (slice_get rest 0) (row_behind (λ row. row.address == address) rest)))
+                    ∙ sym (ap (λ t. (cond t (slice_get rest 0) (row_behind (λ row. row.address == address) rest)))
                     (ne_eqb (row_at nodes x).address address (λ own. eqb-false n x e (sym (only x (in_here x xs) own)))))
               ]
 
@@ -255,6 +258,15 @@ module _ {acap slots : ℕ} {nodes : Nodes ARow} {index : Index} (k : Matches ac
 
   pub first_out : (address key : ℕ) (o : Option ℕ) → o ≡ slice_get (nodes_of key index) 0 → key ≡ address → o ≡ None → is_listed_address address (shown acap slots nodes) ≡ false
   first_out address key o first same is = out_of address (sym (found_is address) ∙ ap (λ a. slice_get (nodes_of a index) 0) (sym same) ∙ sym first ∙ is)
+
+  -- no listed node has an address that the index knows nothing of
+  pub none_has : (address key n : ℕ) (o : Option ℕ) → o ≡ slice_get (nodes_of key index) 0 → key ≡ address → o ≡ None → is_in n (listed nodes) ≡ true → address_of nodes n ≢ address
+  none_has address key n o first same is here own =
+      both_ways _ (empty (nodes_of key index) (sym first ∙ is) n) (k.indexed n key ∙ and_true _ _ here (eq-eqb _ _ (own ∙ sym same)))
+    where
+      empty : (xs : List ℕ) → slice_get xs 0 ≡ None → (m : ℕ) → is_in m xs ≡ false
+      empty [] e m = refl
+      empty (x ∷ xs) e m = absurd (cc)
 
   pub entry_count : length (shown acap slots nodes).entries ≡ node_count nodes
   entry_count = length-map (listed nodes) (λ node. record { node = node; row = row_at nodes node }) ∙ sym k.counted

@@ -5,7 +5,7 @@ use Rattle.dd_record.specs.declared.row.ARow.{ARow}
 use Rattle.dd_record.specs.declared.row.Link.{Link}
 use Rattle.dd_record.specs.declared.row.Link.TheVariants.{Lost, Slot, Zero}
 use Rattle.dd_record.specs.Table.{is_slot, is_link}
-use Rattle.dd_lists.specs.Lists.{is_in, is_listed, list_at, put_front, taken_out}
+use Rattle.dd_lists.specs.Lists.{is_in, is_listed, list_at, put_front, taken_out, behind}
 use Rattle.dd_lists.specs.Nodes.{Nodes, value_at, is_live, node_count}
 use Rattle.dd_index.specs.Index.{Index, nodes_of}
 use Rattle.dd_meta.specs.Entries.{Meta, Entry, blank, unlinked}
@@ -105,3 +105,8 @@ IsClean slot nodes = (node : ℕ) → is_in node (listed nodes) ≡ true → is_
 pub record Unlinks (slot slots : ℕ) (old new : Nodes ARow) : Type 0 where
   pub matches : (acap : ℕ) (index : Index) → Matches acap slots old index → IsClean slot old → Matches acap slots new index
   pub shows : (acap : ℕ) (index : Index) → Matches acap slots old index → IsClean slot old → shown acap slots new ≡ record (shown acap slots old) { entries = map (unlinked slot) (shown acap slots old).entries }
+
+-- a node of a list, or the one behind it where its address is not to be told
+abbrev pub passing : Nodes ARow → ℕ → Option ℕ → List ℕ → Option ℕ
+passing nodes skip None xs = None
+passing nodes skip (Some node) xs = if address_of nodes node == skip then behind node xs else Some node

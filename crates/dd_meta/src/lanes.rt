@@ -1,8 +1,8 @@
 // Nodes with a row each: where they stand among the referrers and those that wait.
 ghost use Rattle.std.specs.Prelude.{◌≡◌, ℕ, ◌+◌, ◌<◌, ◌^◌, Some, None, true, false, length, option_map, IfSome};
-ghost use Rattle.dd_lists.specs.Lists.{is_in, list_at, taken_out};
+ghost use Rattle.dd_lists.specs.Lists.{is_in, is_listed, list_at, taken_out};
 ghost use Rattle.dd_lists.specs.Nodes.{is_live};
-ghost use Rattle.dd_meta.specs.Matching.{address_of as address_at, IsBelow, home_of, referring_by, waiting_by, with_row, Unlinks};
+ghost use Rattle.dd_meta.specs.Matching.{address_of as address_at, IsBelow, home_of, referring_by, waiting_by, with_row, Unlinks, row_at, passing};
 
 use dd_lists::{Lane, Nodes};
 use dd_record::{ARow, Link};
@@ -114,6 +114,35 @@ pub fn address_of(nodes: &Nodes<ARow>, node: Option<u32>) -> Option<u32>
 {
     match node {
         Some(live) => Some(nodes.get(live).address),
+        None => None,
+    }
+}
+
+// The row of a node, if there is one.
+pub fn row_of(nodes: &Nodes<ARow>, node: Option<u32>) -> Option<ARow>
+    requires { IfSome node (λ live. is_live live nodes.now ≡ true) }
+    ensures { result ≡ option_map (row_at nodes.now) node }
+{
+    match node {
+        Some(live) => Some(*nodes.get(live)),
+        None => None,
+    }
+}
+
+// The address of a referrer, or of the one behind it where that is not to be told.
+pub fn pass(nodes: &Nodes<ARow>, skip: u32, at: Option<u32>) -> Option<u32>
+    requires live { IfSome at (λ node. is_live node nodes.now ≡ true) }
+    requires listed { IfSome at (λ node. is_listed node nodes.now.referrers ≡ true) }
+    ensures { (list : ℕ) → IfSome at (λ node. is_in node (list_at list nodes.now.referrers) ≡ true) → result ≡ option_map (address_at nodes.now) (passing nodes.now skip at (list_at list nodes.now.referrers)) }
+{
+    match at {
+        Some(node) => {
+            if nodes.get(node).address == skip {
+                address_of(nodes, nodes.next(Lane::Referrers, node))
+            } else {
+                Some(nodes.get(node).address)
+            }
+        }
         None => None,
     }
 }

@@ -9,7 +9,7 @@ ghost use Rattle.dd_meta.specs.Matching.{IsBelow};
 ghost use Rattle.dd_meta.specs.Walks.{but, next_of, IsWalked};
 ghost use Rattle.dd_meta.specs.Entries.{rows_of, node_of, row_of, row_named, owed_to, is_listed_address, last_address, Brings, Fronts, Writes, unlinked};
 
-use crate::lanes::{ALL, address_of, leave, unlink_referrers, write};
+use crate::lanes::{ALL, address_of, leave, pass, row_of, unlink_referrers, write};
 use dd_block::Fp;
 use dd_index::Index;
 use dd_lists::{Lane, Nodes};
@@ -75,6 +75,7 @@ impl MetaCache {
     pub fn find(&self, address: u32) -> Option<u32>
         ensures node { result ≡ node_of address self.now }
         ensures row { option_and_then (λ node. row_of node self.now) result ≡ a_row address (rows_of self.now) }
+        ensures live { IfSome result (λ node. is_some (row_of node self.now) ≡ true) }
     {
         self.index.first(u64::from(address))
     }
@@ -216,16 +217,67 @@ impl MetaCache {
         address_of(&self.nodes, self.nodes.back(Lane::Waiting, ALL))
     }
 
+    /// The dirty address that became dirty next after a dirty one, or the oldest.
+    pub fn next_dirty(&self, after: Option<u32>) -> Option<u32>
+        requires { IsWalked after self.now.dirty }
+        ensures { result ≡ next_of after self.now.dirty }
+    {
+        match after {
+            None => self.oldest_dirty(),
+            Some(address) => match self.index.first(u64::from(address)) {
+                Some(node) => address_of(&self.nodes, self.nodes.prev(Lane::Waiting, node)),
+                None => None,
+            },
+        }
+    }
+
+    /// A dirty address linked to a slot, other than `skip`: the first of a walk, or the one behind that which it gave before.
+    ///
+    /// A walk comes to each of them once. It goes on as before where an address that it gave is clean meanwhile.
+    pub fn next_referrer(&self, slot: u32, skip: u32, after: Option<u32>) -> Option<u32>
+        requires slot { slot < self.now.slots }
+        requires walked { IsWalked after (but skip (owed_to slot self.now)) }
+        ensures { result ≡ next_of after (but skip (owed_to slot self.now)) }
+    {
+        match after {
+            None => pass(&self.nodes, skip, self.nodes.front(Lane::Referrers, slot)),
+            Some(address) => match self.index.first(u64::from(address)) {
+                Some(node) => pass(&self.nodes, skip, self.nodes.next(Lane::Referrers, node)),
+                None => None,
+            },
+        }
+    }
+
+    /// The first row, or the one behind that of an address; None where it isn't listed.
+    pub fn walk(&self, after: Option<u32>) -> Option<ARow>
+        ensures { result ≡ a_walk after (rows_of self.now) }
+    {
+        match after {
+            None => row_of(&self.nodes, self.nodes.front(Lane::Recency, ALL)),
+            Some(listed) => match self.index.first(u64::from(listed)) {
+                Some(node) => row_of(&self.nodes, self.nodes.next(Lane::Recency, node)),
+                None => None,
+            },
+        }
+    }
+
     /// The first address, or the one behind an address that is listed.
     pub fn next(&self, address: Option<u32>) -> Option<u32>
         ensures { result ≡ option_map (λ row. row.address) (a_walk address (rows_of self.now)) }
     {
-        match address {
-            None => address_of(&self.nodes, self.nodes.front(Lane::Recency, ALL)),
-            Some(listed) => match self.index.first(u64::from(listed)) {
-                Some(node) => address_of(&self.nodes, self.nodes.next(Lane::Recency, node)),
-                None => None,
-            },
+        match self.walk(address) {
+            Some(row) => Some(row.address),
+            None => None,
+        }
+    }
+
+    /// The row of an address, where it is listed.
+    pub fn look(&self, address: u32) -> Option<ARow>
+        ensures { result ≡ a_row address (rows_of self.now) }
+    {
+        match self.find(address) {
+            Some(node) => Some(self.row(node)),
+            None => None,
         }
     }
 }

@@ -5,6 +5,7 @@ use Rattle.dd_index.specs.Index.{nodes_of}
 use Rattle.dd_meta.specs.Entries.{node_of, row_of, rows_of}
 use Rattle.dd_meta.specs.Matching.{shown}
 use Rattle.dd_meta.proofs.Rows.{found_is, found_row}
+use Rattle.dd_meta.proofs.Walking.{find_live}
 use Rattle.dd_meta.proofs.meta.MetaCache.find.Goals as goal
 
 pub returns-clause-node : goal.returns-clause-node
@@ -19,3 +20,9 @@ returns-clause-row c =
     ∙ sym (ap (λ m. option_and_then (λ n. row_of n m) (node_of c.args.address (shown c.self.inside.acap c.self.inside.slots c.self.inside.nodes))) c.self.view_is)
     ∙ found_row c.self.invariant c.args.address
     ∙ ap (λ m. a_row c.args.address (rows_of m)) c.self.view_is
+
+pub returns-clause-live : goal.returns-clause-live
+returns-clause-live c =
+    find_live c.self.invariant c.args.address c.first.result
+    (c.first.ensures ∙ ap (λ key. slice_get (nodes_of key c.self.inside.index) 0) c.from.ensures ∙ found_is c.self.invariant c.args.address)
+    c.args.self.now c.self.view_is
