@@ -1,10 +1,12 @@
 pub mod Adding
 pub mod Dropping
+pub mod Facts
 pub mod Fronting
 pub mod Homes
 pub mod Marking
 pub mod Numbers
 pub mod Owed
+pub mod Referring
 pub mod Rows
 pub mod Stepping
 pub mod Unlinking

@@ -19,7 +19,7 @@ use Rattle.dd_meta.proofs.Numbers.{map_map}
 use Rattle.dd_meta.specs.Matching.{row_at, address_of, entry_of, listed, waiting, shown, Matches}
 
 -- searches in lists of nodes
-find_map : {X : Type 0} (p : X → Bool) (f : ℕ → X) (xs : List ℕ) → find p (map f xs) ≡ option_map f (find (λ n. p (f n)) xs)
+pub find_map : {X : Type 0} (p : X → Bool) (f : ℕ → X) (xs : List ℕ) → find p (map f xs) ≡ option_map f (find (λ n. p (f n)) xs)
 find_map p f [] = refl
 find_map p f (x ∷ xs) = step (p (f x)) (find_map p f xs)
   where
@@ -27,7 +27,7 @@ find_map p f (x ∷ xs) = step (p (f x)) (find_map p f xs)
     step true later = refl
     step false later = later
 
-find_in : (p : ℕ → Bool) (xs : List ℕ) (n : ℕ) → find p xs ≡ Some n → (is_in n xs ≡ true) × (p n ≡ true)
+pub find_in : (p : ℕ → Bool) (xs : List ℕ) (n : ℕ) → find p xs ≡ Some n → (is_in n xs ≡ true) × (p n ≡ true)
 find_in p [] n h = absurd (cc)
 find_in p (x ∷ xs) n h = step (p x) refl (find_in p xs n) h
   where
@@ -35,7 +35,7 @@ find_in p (x ∷ xs) n h = step (p x) refl (find_in p xs n) h
     step true passes later e = let same : x ≡ n = cc in (ap (λ i. is_in i (x ∷ xs)) (sym same) ∙ in_here x xs, ap p (sym same) ∙ passes)
     step false passes later e = let found = later e in (in_later n x xs found.0, found.1)
 
-find_out : (p : ℕ → Bool) (xs : List ℕ) (n : ℕ) → find p xs ≡ None → is_in n xs ≡ true → p n ≡ true → ⊥
+pub find_out : (p : ℕ → Bool) (xs : List ℕ) (n : ℕ) → find p xs ≡ None → is_in n xs ≡ true → p n ≡ true → ⊥
 find_out p [] n h there passes = both_ways false refl there
 find_out p (x ∷ xs) n h there passes = step (λ e later. find_out p xs n e later passes) (p x) refl h
   where

@@ -64,7 +64,7 @@ module _ {acap slots : ℕ} {nodes : Nodes ARow} {index : Index} (k : Matches ac
           behind_map (address_of nodes) node xs there (λ m h. node_apart node m here (inside m h))
           ∙ ap (λ a. row_behind (λ other. other == a) (map (address_of nodes) xs)) own
 
-  wait_inside : (m : ℕ) → is_in m (reverse (waiting nodes)) ≡ true → is_in m (listed nodes) ≡ true
+  pub wait_inside : (m : ℕ) → is_in m (reverse (waiting nodes)) ≡ true → is_in m (listed nodes) ≡ true
   wait_inside m h = (and_parts _ _ (sym (k.waits m) ∙ sym (in_reverse m (waiting nodes)) ∙ h)).0
 
   -- by age
@@ -83,7 +83,7 @@ module _ {acap slots : ℕ} {nodes : Nodes ARow} {index : Index} (k : Matches ac
 
   -- those of a slot
   module _ (slot : ℕ) (low : slot < slots) where
-    owed_inside : (m : ℕ) → is_in m (list_at slot nodes.referrers) ≡ true → is_in m (listed nodes) ≡ true
+    pub owed_inside : (m : ℕ) → is_in m (list_at slot nodes.referrers) ≡ true → is_in m (listed nodes) ≡ true
     owed_inside m h = (and_parts _ _ (sym (k.referring slot m) ∙ h)).0
 
     is_owed : owed_to slot (shown acap slots nodes) ≡ map (address_of nodes) (list_at slot nodes.referrers)

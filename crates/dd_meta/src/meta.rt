@@ -6,10 +6,11 @@ ghost use Rattle.dd_record.specs.Listed.{a_walk};
 ghost use Rattle.dd_lists.specs.Lists.{is_in, list_at};
 ghost use Rattle.dd_lists.specs.Nodes.{is_live};
 ghost use Rattle.dd_meta.specs.Matching.{IsBelow};
+ghost use Rattle.dd_meta.specs.Keeping.{IsMeta, IsReferrer};
 ghost use Rattle.dd_meta.specs.Walks.{but, next_of, IsWalked};
 ghost use Rattle.dd_meta.specs.Entries.{rows_of, node_of, row_of, row_named, owed_to, is_listed_address, last_address, Brings, Fronts, Writes, unlinked};
 
-use crate::lanes::{ALL, address_of, leave, pass, row_of, unlink_referrers, write};
+use crate::lanes::{ALL, address_of, has_any, leave, pass, row_of, unlink_referrers, write};
 use dd_block::Fp;
 use dd_index::Index;
 use dd_lists::{Lane, Nodes};
@@ -51,7 +52,8 @@ impl MetaCache {
     /// Where `acap` and twice `slots` don't fit 32 bits together, this is answered as want of memory.
     pub fn new(alloc: Global, acap: u32, slots: u32) -> Result<Self, AllocError>
         requires { 1 ≤ acap }
-        ensures { IfOk result (λ made. made ≡ record { acap = acap; slots = slots; entries = []; dirty = []; owed = replicate slots [] }) }
+        ensures empty { IfOk result (λ made. made ≡ record { acap = acap; slots = slots; entries = []; dirty = []; owed = replicate slots [] }) }
+        ensures keeps { IfOk result IsMeta }
     {
         let Some(lists) = slots.checked_add(slots) else {
             return Err(AllocError);
@@ -66,7 +68,8 @@ impl MetaCache {
 
     /// How many addresses are listed.
     pub fn len(&self) -> u32
-        ensures { result ≡ length self.now.entries }
+        ensures count { result ≡ length self.now.entries }
+        ensures keeps { IsMeta self.now }
     {
         self.nodes.len()
     }
@@ -110,7 +113,8 @@ impl MetaCache {
     pub fn set_dirty(&mut self, node: u32)
         requires listed { is_some (row_of node self.old) ≡ true }
         requires linked { is_link (row_named node self.old).link ≡ true }
-        ensures { Writes self.old self.new node (record (row_named node self.old) { dirty = true }) }
+        ensures after { Writes self.old self.new node (record (row_named node self.old) { dirty = true }) }
+        ensures keeps { IsMeta self.new }
     {
         let row = *self.nodes.get(node);
         write(
@@ -124,7 +128,8 @@ impl MetaCache {
     /// Makes the row of an address clean.
     pub fn set_clean(&mut self, node: u32)
         requires { is_some (row_of node self.old) ≡ true }
-        ensures { Writes self.old self.new node (record (row_named node self.old) { dirty = false }) }
+        ensures after { Writes self.old self.new node (record (row_named node self.old) { dirty = false }) }
+        ensures keeps { IsMeta self.new }
     {
         let row = *self.nodes.get(node);
         write(
@@ -145,7 +150,8 @@ impl MetaCache {
         requires room { is_listed_address address self.old ≡ false → length self.old.entries < self.old.acap }
         requires linked { dirty ≡ true → is_link link ≡ true }
         requires below { IsBelow self.old.slots link }
-        ensures { Fronts self.old self.new (record { address = address; link = link; dirty = dirty; fp = fp }) }
+        ensures after { Fronts self.old self.new (record { address = address; link = link; dirty = dirty; fp = fp }) }
+        ensures keeps { IsMeta self.new }
     {
         let node = self.bring(address, fp);
         let row = ARow {
@@ -189,6 +195,7 @@ impl MetaCache {
         requires clean { IfSome (slice_get (rows_of self.old) (length (rows_of self.old) - 1)) (λ row. row.dirty ≡ false) }
         ensures row { slice_get (rows_of self.old) (length (rows_of self.old) - 1) ≡ Some result }
         ensures after { self.new ≡ record self.old { entries = take (length self.old.entries - 1) self.old.entries } }
+        ensures keeps { IsMeta self.new }
     {
         match self.nodes.back(Lane::Recency, ALL) {
             Some(node) => {
@@ -205,9 +212,27 @@ impl MetaCache {
     pub fn unlink_all(&mut self, slot: u32)
         requires below { slot < self.old.slots }
         requires clean { AllByRecursion (λ row. is_slot slot row.link ≡ true → row.dirty ≡ false) (rows_of self.old) }
-        ensures { self.new ≡ record self.old { entries = map (unlinked slot) self.old.entries } }
+        ensures after { self.new ≡ record self.old { entries = map (unlinked slot) self.old.entries } }
+        ensures keeps { IsMeta self.new }
     {
         unlink_referrers(&mut self.nodes, self.slots, slot);
+    }
+
+    /// A dirty address linked to a slot, other than `skip`: the first that a walk along them comes to. None exactly where there is none.
+    pub fn dirty_of(&self, slot: u32, skip: u32) -> Option<u32>
+        requires { slot < self.now.slots }
+        ensures first { result ≡ next_of None (but skip (owed_to slot self.now)) }
+        ensures referrer { IsReferrer slot skip (rows_of self.now) result }
+    {
+        pass(&self.nodes, skip, self.nodes.front(Lane::Referrers, slot))
+    }
+
+    /// Whether an address is linked to a slot.
+    pub fn is_referred(&self, slot: u32) -> bool
+        requires { slot < self.now.slots }
+        ensures { result ≡ list_any (λ row. is_slot slot row.link) (rows_of self.now) }
+    {
+        has_any(&self.nodes, slot) || has_any(&self.nodes, self.slots + slot)
     }
 
     /// The address that became dirty longest ago.
