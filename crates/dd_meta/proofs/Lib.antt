@@ -1,6 +1,8 @@
 pub mod Adding
 pub mod Dropping
+pub mod Emptying
 pub mod Facts
+pub mod Filled
 pub mod Fronting
 pub mod Homes
 pub mod Marking

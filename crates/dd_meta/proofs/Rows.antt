@@ -47,7 +47,7 @@ find_out p (x ∷ xs) n h there passes = step (λ e later. find_out p xs n e lat
           | inr rest ↦ later h rest
         ]
 
-find_itself : (n : ℕ) (xs : List ℕ) → is_in n xs ≡ true → find (λ m. m == n) xs ≡ Some n
+pub find_itself : (n : ℕ) (xs : List ℕ) → is_in n xs ≡ true → find (λ m. m == n) xs ≡ Some n
 find_itself n [] h = absurd (both_ways false refl h)
 find_itself n (x ∷ xs) h =
     elim (in_cons n x xs h) [
@@ -123,7 +123,7 @@ module _ {acap slots : ℕ} {nodes : Nodes ARow} {index : Index} (k : Matches ac
       (here.0, eqb-true _ _ here.1)
 
   -- the row of a node
-  row_is : (node : ℕ) → row_of node (shown acap slots nodes) ≡ option_map (row_at nodes) (find (λ n. n == node) (listed nodes))
+  pub row_is : (node : ℕ) → row_of node (shown acap slots nodes) ≡ option_map (row_at nodes) (find (λ n. n == node) (listed nodes))
   row_is node = ap (option_map (λ (e : Entry). e.row)) (find_map (λ (e : Entry). e.node == node) entry (listed nodes)) ∙ same (find (λ n. n == node) (listed nodes))
     where
       entry : ℕ → Entry
@@ -287,7 +287,7 @@ no_value (suc n) (suc i) = no_value n i
 abbrev no_nodes : List ℕ
 no_nodes = []
 
-no_list : (n i : ℕ) → list_at i (replicate n []) ≡ []
+pub no_list : (n i : ℕ) → list_at i (replicate n []) ≡ []
 no_list zero i = refl
 no_list (suc n) zero = refl
 no_list (suc n) (suc i) = no_list n i

@@ -10,6 +10,8 @@ ghost use Rattle.dd_meta.specs.Keeping.{IsMeta, IsReferrer};
 ghost use Rattle.dd_meta.specs.Walks.{but, next_of, IsWalked};
 ghost use Rattle.dd_meta.specs.Entries.{rows_of, node_of, row_of, row_named, owed_to, is_listed_address, last_address, Brings, Fronts, Writes, unlinked};
 
+mod filling;
+
 use crate::lanes::{ALL, address_of, has_any, leave, pass, row_of, unlink_referrers, write};
 use dd_block::Fp;
 use dd_index::Index;
