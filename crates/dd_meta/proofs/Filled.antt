@@ -13,15 +13,6 @@ use Rattle.dd_meta.specs.Walks.{dirty_of_rows}
 use Rattle.dd_meta.proofs.Numbers.{in_append, filter_all}
 use Rattle.dd_meta.proofs.Stepping.{turn}
 
-map_filter : (p : ARow → Bool) (es : List Entry) → map (λ (e : Entry). e.row) (filter (λ (e : Entry). not (p e.row)) es) ≡ filter (λ row. not (p row)) (map (λ (e : Entry). e.row) es)
-map_filter p [] = refl
-map_filter p (e ∷ es) = step (p e.row) (map_filter p es)
-  where
-    step : (b : Bool) → map (λ (x : Entry). x.row) (filter (λ (x : Entry). not (p x.row)) es) ≡ filter (λ row. not (p row)) (map (λ (x : Entry). x.row) es)
-        → map (λ (x : Entry). x.row) (cond (not b) (e ∷ filter (λ (x : Entry). not (p x.row)) es) (filter (λ (x : Entry). not (p x.row)) es)) ≡ cond (not b) (e.row ∷ filter (λ row. not (p row)) (map (λ (x : Entry). x.row) es)) (filter (λ row. not (p row)) (map (λ (x : Entry). x.row) es))
-    step true later = later
-    step false later = ap (λ (l : List ARow). e.row ∷ l) later
-
 split : (row : ARow) (rows : List ARow) → dirty_of_rows (row ∷ rows) ≡ dirty_of_rows rows ++ cond row.dirty (row.address ∷ []) []
 split row rows =
     ap (λ (l : List ARow). map (λ (r : ARow). r.address) (filter (λ (r : ARow). r.dirty) l)) (reverse-append (row ∷ []) rows)
@@ -73,9 +64,9 @@ drop_apart (suc n) (row ∷ rows) d = drop_apart n rows d.1
 pub fill_step : (rows : List ARow) (n : ℕ) (blank : ARow) → n < length rows → IsDistinct (λ (x y : ARow). x.address == y.address) rows → (old new : Meta) → Fronts old new (get_or rows n blank)
     → rows_of old ≡ drop (n + 1) rows → old.dirty ≡ dirty_of_rows (drop (n + 1) rows) → (rows_of new ≡ drop n rows) × (new.dirty ≡ dirty_of_rows (drop n rows))
 fill_step rows n blank low d old new f have dirty = (
-  ap (map (λ (e : Entry). e.row)) f.entries
+  f.rows
       ∙ ap (λ (l : List ARow). get_or rows n blank ∷ l)
-      (map_filter (λ (row : ARow). row.address == (get_or rows n blank).address) old.entries ∙ ap (filter (λ (row : ARow). not (row.address == (get_or rows n blank).address))) have
+      (ap (filter (λ (row : ARow). not (row.address == (get_or rows n blank).address))) have
       ∙ filter_all (λ (row : ARow). row.address == (get_or rows n blank).address) (drop (n + 1) rows) out)
       ∙ sym next,
   f.dirty ∙ ap (dirty_by (get_or rows n blank)) dirty ∙ dirty_more (get_or rows n blank) (drop (n + 1) rows) out ∙ ap dirty_of_rows (sym next),

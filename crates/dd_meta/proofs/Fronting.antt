@@ -13,7 +13,7 @@ use Rattle.dd_lists.specs.Lists.{is_in, list_at, without, fronted, put_front, mo
 use Rattle.dd_lists.specs.Nodes.{Nodes, value_at, is_live}
 use Rattle.dd_lists.proofs.Members.{in_cons, in_here, in_without_other, distinct_front, at_moved, at_put}
 use Rattle.dd_index.specs.Index.{Index, nodes_of, Inserts}
-use Rattle.dd_meta.specs.Entries.{Entry, Meta, Brings, Writes, Fronts, blank, row_of, written, dirty_by, owed_by, is_listed_address}
+use Rattle.dd_meta.specs.Entries.{Entry, Meta, Brings, Writes, Fronts, blank, rows_of, row_of, written, dirty_by, owed_by, is_listed_address}
 use Rattle.dd_meta.specs.Matching.{row_at, address_of, entry_of, listed, waiting, shown, IsBelow, home_of, is_home, with_row, Matches}
 use Rattle.dd_meta.proofs.Numbers.{map_in_same, map_map, head_out, fewer, filter_map, filter_all, in_reverse}
 use Rattle.dd_meta.proofs.Homes.{put_once}
@@ -98,6 +98,16 @@ module _ {acap slots : ℕ} {nodes : Nodes ARow} {index : Index} (k : Matches ac
       apart : (m : ℕ) → is_in m (listed nodes) ≡ true → (address_of nodes m == address) ≡ (node == m)
       apart m h = turn (address_of nodes m) address ∙ ap (λ a. a == address_of nodes m) (sym is) ∙ tells k node live (row_at nodes node) value m h
 
+-- rows of entries that pass a test on them
+map_filter : (p : ARow → Bool) (es : List Entry) → map (λ (e : Entry). e.row) (filter (λ (e : Entry). not (p e.row)) es) ≡ filter (λ row. not (p row)) (map (λ (e : Entry). e.row) es)
+map_filter p [] = refl
+map_filter p (e ∷ es) = step (p e.row) (map_filter p es)
+  where
+    step : (b : Bool) → map (λ (x : Entry). x.row) (filter (λ (x : Entry). not (p x.row)) es) ≡ filter (λ row. not (p row)) (map (λ (x : Entry). x.row) es)
+        → map (λ (x : Entry). x.row) (cond (not b) (e ∷ filter (λ (x : Entry). not (p x.row)) es) (filter (λ (x : Entry). not (p x.row)) es)) ≡ cond (not b) (e.row ∷ filter (λ row. not (p row)) (map (λ (x : Entry). x.row) es)) (filter (λ row. not (p row)) (map (λ (x : Entry). x.row) es))
+    step true later = later
+    step false later = ap (λ (l : List ARow). e.row ∷ l) later
+
 -- the row of an address that was brought in front
 pub brought_row : (old new : Meta) (address node : ℕ) (b : Brings old new address node) → row_of node new ≡ Some b.row
 brought_row old new address node b =
@@ -154,15 +164,22 @@ module _ {acap slots : ℕ} {nodes : Nodes ARow} {index : Index} (k : Matches ac
       (λ n h. ap (λ t. cond t (record { node = n; row = row }) (entry_of nodes n)) (ne_eqb n node (λ it. both_ways _ (head_out x xs d) (ap (λ i. is_in i xs) (same ∙ sym it) ∙ h))))
       ∙ rest
 
+  front_entries : (shown acap slots new).entries ≡ record { node = node; row = row } ∷ filter (λ (e : Entry). not (e.row.address == row.address)) before.entries
+  front_entries =
+      writes.entries ∙ ap (map (written node row)) b.entries
+      ∙ ap (λ t. cond t (record { node = node; row = row }) (record { node = node; row = b.row }) ∷ map (written node row) (filter (λ (e : Entry). not (e.row.address == address)) before.entries)) (eq-eqb node node refl)
+      ∙ ap (λ (l : List Entry). record { node = node; row = row } ∷ l) (alone (listed nodes) k.distinct (ap (λ (m : Meta). m.entries) is ∙ b.entries))
+      ∙ ap (λ a. record { node = node; row = row } ∷ filter (λ (e : Entry). not (e.row.address == a)) before.entries) (sym own)
+
+  front_rows : rows_of (shown acap slots new) ≡ row ∷ filter (λ (other : ARow). not (other.address == row.address)) (rows_of before)
+  front_rows = ap (map (λ (e : Entry). e.row)) front_entries ∙ ap (λ (l : List ARow). row ∷ l) (map_filter (λ (other : ARow). other.address == row.address) before.entries)
+
   pub front_shown : Fronts before (shown acap slots new) row
   front_shown =
       record {
         node = node;
-        entries =
-            writes.entries ∙ ap (map (written node row)) b.entries
-            ∙ ap (λ t. cond t (record { node = node; row = row }) (record { node = node; row = b.row }) ∷ map (written node row) (filter (λ (e : Entry). not (e.row.address == address)) before.entries)) (eq-eqb node node refl)
-            ∙ ap (λ (l : List Entry). record { node = node; row = row } ∷ l) (alone (listed nodes) k.distinct (ap (λ (m : Meta). m.entries) is ∙ b.entries))
-            ∙ ap (λ a. record { node = node; row = row } ∷ filter (λ (e : Entry). not (e.row.address == a)) before.entries) (sym own);
+        entries = front_entries;
+        rows = front_rows;
         dirty = writes.dirty ∙ ap (dirty_by row) b.dirty;
         owed = λ slot. writes.owed slot ∙ ap (λ lists. owed_by slot row (list_at slot lists)) b.owed;
         acap = writes.acap ∙ b.acap;

@@ -1,4 +1,5 @@
 pub mod Adding
+pub mod Cleaning
 pub mod Dropping
 pub mod Emptying
 pub mod Facts

@@ -56,7 +56,7 @@ map_test : (p q : ARow → Bool) (o : Option ARow) → option_map p o ≡ Some t
 map_test p q None h to = absurd (cc)
 map_test p q (Some row) h to = let passes : p row ≡ true = cc in ap Some (to row refl passes)
 
-found_address : (address : ℕ) (rows : List ARow) (row : ARow) → a_row address rows ≡ Some row → row.address ≡ address
+pub found_address : (address : ℕ) (rows : List ARow) (row : ARow) → a_row address rows ≡ Some row → row.address ≡ address
 found_address address [] row h = absurd (cc)
 found_address address (r ∷ rows) row h = step (r.address == address) refl h (found_address address rows row)
   where

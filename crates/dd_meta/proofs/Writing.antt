@@ -10,10 +10,10 @@ use Rattle.dd_record.specs.Table.{is_slot, is_link}
 use Rattle.dd_lists.specs.Lists.{is_in, list_at, without}
 use Rattle.dd_lists.specs.Nodes.{Nodes, value_at, is_live}
 use Rattle.dd_index.specs.Index.{Index}
-use Rattle.dd_meta.specs.Entries.{Entry, Meta, Writes, blank, owed_to, owed_by, dirty_by, written, with_dirty}
+use Rattle.dd_meta.specs.Entries.{Entry, Meta, Writes, blank, owed_to, owed_by, dirty_by, written, replaced, rows_of, with_dirty}
 use Rattle.dd_meta.specs.Matching.{row_at, address_of, entry_of, listed, waiting, shown, IsBelow, home_of, is_home, with_row, Matches}
 use Rattle.dd_meta.proofs.Homes.{home_size, home_list, put_it, put_rest, put_once, home_low, dirty_home, no_slot}
-use Rattle.dd_meta.proofs.Numbers.{map_same, map_map, map_without}
+use Rattle.dd_meta.proofs.Numbers.{map_same, map_in_same, map_map, map_without}
 use Rattle.dd_meta.proofs.Owed.{owed_low, owed_past}
 use Rattle.dd_meta.proofs.Waiting.{Waits, waits_now, tells}
 
@@ -120,6 +120,23 @@ module _ {acap slots : ℕ} {nodes : Nodes ARow} {index : Index} (k : Matches ac
             ∙ sym (ap (λ t. cond t (record { node = n; row = row }) (entry_of nodes n)) (ne_eqb n node other))
       ]
 
+  row_now : (n : ℕ) → is_in n (listed nodes) ≡ true → row_at after n ≡ replaced row (row_at nodes n)
+  row_now n there =
+      elim (cases_eq n node) [
+        | inl same ↦
+            ap (row_at after) same ∙ ap (λ o. unwrap_or o blank) at_same
+            ∙ sym (ap (λ t. cond t row (row_at nodes n)) (eq-eqb _ _ (ap (address_of nodes) same ∙ ap (λ o. (unwrap_or o blank).address) value ∙ sym address)))
+        | inr other ↦
+            ap (λ o. unwrap_or o blank) (at_other n other)
+            ∙ sym (ap (λ t. cond t row (row_at nodes n)) (ne_eqb _ _ (λ e. other (k.single n node there here (e ∙ address ∙ sym (ap (λ o. (unwrap_or o blank).address) value))))))
+      ]
+
+  rows_now : rows_of (shown acap slots after) ≡ map (replaced row) (rows_of (shown acap slots nodes))
+  rows_now =
+      map_map (entry_of after) (λ (e : Entry). e.row) (listed nodes)
+      ∙ map_in_same (row_at after) (λ n. replaced row (row_at nodes n)) (listed nodes) row_now
+      ∙ sym (ap (map (replaced row)) (map_map (entry_of nodes) (λ (e : Entry). e.row) (listed nodes)) ∙ map_map (row_at nodes) (replaced row) (listed nodes))
+
   -- the list of a slot's dirty addresses
   at_home : (b : Bool) (xs : List ℕ) → ((m : ℕ) → is_in m xs ≡ true → is_in m (listed nodes) ≡ true)
       → map (address_of nodes) (cond b (node ∷ without node xs) (without node xs)) ≡ cond b (row.address ∷ without row.address (map (address_of nodes) xs)) (without row.address (map (address_of nodes) xs))
@@ -158,6 +175,7 @@ module _ {acap slots : ℕ} {nodes : Nodes ARow} {index : Index} (k : Matches ac
   written_shown =
       record {
         entries = map_same (entry_of after) (λ n. written node row (entry_of nodes n)) (listed nodes) entry_now ∙ sym (map_map (entry_of nodes) (written node row) (listed nodes));
+        rows = rows_now;
         dirty =
             map_same (address_of after) (address_of nodes) (reverse (waiting after)) address_same ∙ wait.addresses
             ∙ ap (λ a. cond row.dirty (with_dirty a (shown acap slots nodes).dirty) (without a (shown acap slots nodes).dirty)) (sym address);

@@ -75,6 +75,7 @@ pub record Brings (old new : Meta) (address node : ℕ) : Type 0 where
 pub record Fronts (old new : Meta) (row : ARow) : Type 0 where
   pub node : ℕ
   pub entries : new.entries ≡ record { node = node; row = row } ∷ filter (λ entry. not (entry.row.address == row.address)) old.entries
+  pub rows : rows_of new ≡ row ∷ filter (λ other. not (other.address == row.address)) (rows_of old)
   pub dirty : new.dirty ≡ dirty_by row old.dirty
   pub owed : (slot : ℕ) → owed_to slot new ≡ owed_by slot row (owed_to slot old)
   pub acap : new.acap ≡ old.acap
@@ -84,9 +85,14 @@ pub record Fronts (old new : Meta) (row : ARow) : Type 0 where
 abbrev pub written : ℕ → ARow → Entry → Entry
 written node row entry = if entry.node == node then record { node = entry.node; row = row } else entry
 
+-- a row in the place of another one of its address
+abbrev pub replaced : ARow → ARow → ARow
+replaced row other = if other.address == row.address then row else other
+
 -- the node's address has this row now
 pub record Writes (old new : Meta) (node : ℕ) (row : ARow) : Type 0 where
   pub entries : new.entries ≡ map (written node row) old.entries
+  pub rows : rows_of new ≡ map (replaced row) (rows_of old)
   pub dirty : new.dirty ≡ dirty_by row old.dirty
   pub owed : (slot : ℕ) → owed_to slot new ≡ owed_by slot row (owed_to slot old)
   pub acap : new.acap ≡ old.acap

@@ -1,7 +1,8 @@
 //! The listed addresses, in linked lists, found by their number.
-ghost use Rattle.std.specs.Prelude.{◌≡◌, ℕ, ◌+◌, ◌-◌, ◌<◌, ◌≤◌, [], Some, None, true, false, map, take, replicate, length, is_some, option_map, option_and_then, if◌then◌else◌, ◌&&◌, ◌==◌, not, slice_get, IfOk, IfSome};
+ghost use Rattle.std.specs.Prelude.{◌≡◌, ℕ, IsTrue, ◌+◌, ◌-◌, ◌<◌, ◌≤◌, [], Some, None, true, false, map, take, replicate, length, is_some, option_map, option_and_then, if◌then◌else◌, ◌&&◌, ◌==◌, not, slice_get, IfOk, IfSome};
 ghost use Rattle.std.specs.List.{list_any, AllByRecursion};
-ghost use Rattle.dd_record.specs.Table.{is_slot, is_link, a_row};
+ghost use Rattle.dd_record.specs.Table.{is_slot, is_link, is_dirty_at, a_row};
+ghost use Rattle.dd_record.specs.Replay.{cleaned};
 ghost use Rattle.dd_record.specs.Listed.{a_walk};
 ghost use Rattle.dd_lists.specs.Lists.{is_in, list_at};
 ghost use Rattle.dd_lists.specs.Nodes.{is_live};
@@ -81,6 +82,7 @@ impl MetaCache {
         ensures node { result ≡ node_of address self.now }
         ensures row { option_and_then (λ node. row_of node self.now) result ≡ a_row address (rows_of self.now) }
         ensures live { IfSome result (λ node. is_some (row_of node self.now) ≡ true) }
+        ensures keeps { IsMeta self.now }
     {
         self.index.first(u64::from(address))
     }
@@ -143,6 +145,22 @@ impl MetaCache {
                 ..row
             },
         );
+    }
+
+    /// Makes a dirty address clean. A walk along the dirty ones, or along those of its slot, goes on behind it as before.
+    pub fn clean(&mut self, address: u32)
+        requires { IsTrue (is_dirty_at address (rows_of self.old)) }
+        ensures rows { rows_of self.new ≡ cleaned address (rows_of self.old) }
+        ensures dirty { self.new.dirty ≡ but address self.old.dirty }
+        ensures owed { (slot : ℕ) → owed_to slot self.new ≡ but address (owed_to slot self.old) }
+        ensures acap { self.new.acap ≡ self.old.acap }
+        ensures slots { self.new.slots ≡ self.old.slots }
+        ensures keeps { IsMeta self.new }
+    {
+        match self.find(address) {
+            Some(node) => self.set_clean(node),
+            None => unreachable!(),
+        }
     }
 
     /// Puts an address in front with this link, dirtiness and fingerprint.
