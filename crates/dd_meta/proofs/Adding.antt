@@ -13,13 +13,14 @@ use Rattle.dd_lists.specs.Lists.{is_in, list_at, without, fronted, put_front, mo
 use Rattle.dd_lists.specs.Nodes.{Nodes, value_at, is_live}
 use Rattle.dd_lists.proofs.Members.{in_cons, in_here, in_without_other, distinct_front, at_moved, at_put}
 use Rattle.dd_index.specs.Index.{Index, nodes_of, Inserts}
-use Rattle.dd_meta.specs.Entries.{Entry, Meta, Brings, Writes, Fronts, blank, row_of, written, dirty_by, owed_by, is_listed_address}
+use Rattle.dd_meta.specs.Entries.{Entry, Meta, Brings, Writes, Fronts, blank, node_of, row_of, written, dirty_by, owed_by, is_listed_address}
 use Rattle.dd_meta.specs.Matching.{row_at, address_of, entry_of, listed, waiting, shown, IsBelow, home_of, is_home, with_row, Matches}
 use Rattle.dd_meta.proofs.Numbers.{map_in_same, map_map, head_out, fewer, filter_map, filter_all, in_reverse}
 use Rattle.dd_meta.proofs.Homes.{put_once}
 use Rattle.dd_meta.proofs.Marking.{named_live, named_is}
 use Rattle.dd_meta.proofs.Writing.{written_matches, written_shown}
 use Rattle.dd_meta.proofs.Owed.{owed_same}
+use Rattle.dd_meta.proofs.Rows.{listed_address}
 use Rattle.dd_meta.proofs.Waiting.{tells}
 
 -- a new node
@@ -161,6 +162,7 @@ module _ {acap slots : ℕ} {nodes : Nodes ARow} {index : Index} (k : Matches ac
       record {
         row = row;
         is = refl;
+        known = λ known e. absurd (never known e);
         entries =
             ap (map (entry_of added)) order
             ∙ ap (λ (e : Entry). e ∷ map (entry_of added) (listed nodes)) (λ i. record { node = node; row = row_same i })
@@ -177,3 +179,6 @@ module _ {acap slots : ℕ} {nodes : Nodes ARow} {index : Index} (k : Matches ac
         acap = refl;
         slots = refl;
       }
+    where
+      never : (known : ℕ) → node_of address (shown acap slots nodes) ≡ Some known → ⊥
+      never known e = both_ways _ out (listed_address k address ∙ ap is_some e)

@@ -45,13 +45,13 @@ back_clean acap slots nodes now node is last clean =
     let it : slice_get (rows_of now) (length (rows_of now) - 1) ≡ Some (row_at nodes node) = sym (ap (λ (m : Meta). slice_get (rows_of m) (length (rows_of m) - 1)) is) ∙ back_row acap slots nodes node last in
     subst P it clean
 
-pub not_empty : (acap slots : ℕ) (nodes : Nodes ARow) (now : Meta) → shown acap slots nodes ≡ now → 0 < length now.entries → slice_get (listed nodes) (length (listed nodes) - 1) ≡ None → ⊥
+pub not_empty : (acap slots : ℕ) (nodes : Nodes ARow) (now : Meta) → shown acap slots nodes ≡ now → 0 < length (rows_of now) → slice_get (listed nodes) (length (listed nodes) - 1) ≡ None → ⊥
 not_empty acap slots nodes now is some none = by_list (listed nodes) none size
   where
     size : 0 < length (listed nodes)
     size =
-        let a : length (map (entry_of nodes) (listed nodes)) ≡ length now.entries = ap (λ (m : Meta). length m.entries) is in
-        omega (arith, some, a, length-map (listed nodes) (entry_of nodes))
+        let a : length (map (λ (e : Entry). e.row) (map (entry_of nodes) (listed nodes))) ≡ length (rows_of now) = ap (λ (m : Meta). length (rows_of m)) is in
+        omega (arith, some, a, length-map (map (entry_of nodes) (listed nodes)) (λ (e : Entry). e.row), length-map (listed nodes) (entry_of nodes))
 
     by_list : (xs : List ℕ) → slice_get xs (length xs - 1) ≡ None → 0 < length xs → ⊥
     by_list [] h low = absurd (omega arith)

@@ -102,6 +102,15 @@ module _ {acap slots : ℕ} {nodes : Nodes ARow} {index : Index} (k : Matches ac
     rows_apart xs (λ m h. inside m (in_later m x xs h)) (rest_distinct x xs d),
   )
 
+  nodes_apart : (xs : List ℕ) → IsDistinct (λ a b. a == b) xs → IsDistinct (λ (x y : Entry). x.node == y.node) (map (entry_of nodes) xs)
+  unfolding IsDistinct
+  nodes_apart [] d = tt
+  nodes_apart (x ∷ xs) d = (each xs d.0, nodes_apart xs d.1)
+    where
+      each : (ys : List ℕ) → AllByRecursion (λ y. (x == y) ≡ false) ys → AllByRecursion (λ (e : Entry). (x == e.node) ≡ false) (map (entry_of nodes) ys)
+      each [] all = tt
+      each (y ∷ ys) all = (all.0, each ys all.1)
+
   linked_row : (n : ℕ) → is_in n (listed nodes) ≡ true → IsDirtyLinked (row_at nodes n)
   linked_row n h dirty = k.linked n (k.waits n ∙ and_true _ _ h dirty)
 
@@ -179,6 +188,7 @@ module _ {acap slots : ℕ} {nodes : Nodes ARow} {index : Index} (k : Matches ac
       record {
         some = omega (arith, k.some);
         few = few;
+        nodes = nodes_apart (listed nodes) k.distinct;
         sized = owed_size acap slots nodes k.two;
         addresses = subst (λ (l : List ARow). IsDistinct (λ (x y : ARow). x.address == y.address) l) (sym rows_are) (rows_apart (listed nodes) (λ m h. h) k.distinct);
         linked = subst (λ (l : List ARow). AllByRecursion IsDirtyLinked l) (sym rows_are) (all_rows IsDirtyLinked (listed nodes) linked_row);

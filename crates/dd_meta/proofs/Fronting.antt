@@ -13,7 +13,7 @@ use Rattle.dd_lists.specs.Lists.{is_in, list_at, without, fronted, put_front, mo
 use Rattle.dd_lists.specs.Nodes.{Nodes, value_at, is_live}
 use Rattle.dd_lists.proofs.Members.{in_cons, in_here, in_without_other, distinct_front, at_moved, at_put}
 use Rattle.dd_index.specs.Index.{Index, nodes_of, Inserts}
-use Rattle.dd_meta.specs.Entries.{Entry, Meta, Brings, Writes, Fronts, blank, rows_of, row_of, written, dirty_by, owed_by, is_listed_address}
+use Rattle.dd_meta.specs.Entries.{Entry, Meta, Brings, Writes, Fronts, blank, rows_of, node_of, row_of, written, dirty_by, owed_by, is_listed_address}
 use Rattle.dd_meta.specs.Matching.{row_at, address_of, entry_of, listed, waiting, shown, IsBelow, home_of, is_home, with_row, Matches}
 use Rattle.dd_meta.proofs.Numbers.{map_in_same, map_map, head_out, fewer, filter_map, filter_all, in_reverse}
 use Rattle.dd_meta.proofs.Homes.{put_once}
@@ -72,11 +72,12 @@ module _ {acap slots : ℕ} {nodes : Nodes ARow} {index : Index} (k : Matches ac
         single = λ n m h g e. k.single n m (sym (members n) ∙ h) (sym (members m) ∙ g) e;
       }
 
-  pub moved_shown : (address : ℕ) → address_of nodes node ≡ address → Brings (shown acap slots nodes) (shown acap slots moved) address node
-  moved_shown address is =
+  pub moved_shown : (address : ℕ) → address_of nodes node ≡ address → node_of address (shown acap slots nodes) ≡ Some node → Brings (shown acap slots nodes) (shown acap slots moved) address node
+  moved_shown address is named =
       record {
         row = row_at nodes node;
         is = is;
+        known = λ known e. one_node (sym e ∙ named);
         entries =
             ap (map (entry_of nodes)) order
             ∙ ap (λ (l : List Entry). entry_of nodes node ∷ l) (sym (filter_map (λ (e : Entry). e.row.address == address) (entry_of nodes) node (listed nodes) apart));
@@ -91,6 +92,9 @@ module _ {acap slots : ℕ} {nodes : Nodes ARow} {index : Index} (k : Matches ac
 
       value : value_at node nodes ≡ Some (row_at nodes node)
       value = some_is (value_at node nodes) live
+
+      one_node : {a b : ℕ} → Some a ≡ Some b → a ≡ b
+      one_node e = cc
 
       turn : (a b : ℕ) → (a == b) ≡ (b == a)
       turn a b = elim (cases_eq a b) [ inl e ↦ eq-eqb a b e ∙ sym (eq-eqb b a (sym e)) | inr e ↦ ne_eqb a b e ∙ sym (ne_eqb b a (λ s. e (sym s))) ]
@@ -178,6 +182,7 @@ module _ {acap slots : ℕ} {nodes : Nodes ARow} {index : Index} (k : Matches ac
   front_shown =
       record {
         node = node;
+        known = λ known e. b.known known (ap (λ a. node_of a before) (sym own) ∙ e);
         entries = front_entries;
         rows = front_rows;
         dirty = writes.dirty ∙ ap (dirty_by row) b.dirty;

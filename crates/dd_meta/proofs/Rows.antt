@@ -256,6 +256,9 @@ module _ {acap slots : ℕ} {nodes : Nodes ARow} {index : Index} (k : Matches ac
   pub first_in : (address key n : ℕ) (o : Option ℕ) → o ≡ slice_get (nodes_of key index) 0 → key ≡ address → o ≡ Some n → (is_in n (listed nodes) ≡ true) × (address_of nodes n ≡ address)
   first_in address key n o first same is = found_in address n (sym (found_is address) ∙ ap (λ a. slice_get (nodes_of a index) 0) (sym same) ∙ sym first ∙ is)
 
+  pub first_node : (address key n : ℕ) (o : Option ℕ) → o ≡ slice_get (nodes_of key index) 0 → key ≡ address → o ≡ Some n → node_of address (shown acap slots nodes) ≡ Some n
+  first_node address key n o first same is = sym (found_is address) ∙ ap (λ a. slice_get (nodes_of a index) 0) (sym same) ∙ sym first ∙ is
+
   pub first_out : (address key : ℕ) (o : Option ℕ) → o ≡ slice_get (nodes_of key index) 0 → key ≡ address → o ≡ None → is_listed_address address (shown acap slots nodes) ≡ false
   first_out address key o first same is = out_of address (sym (found_is address) ∙ ap (λ a. slice_get (nodes_of a index) 0) (sym same) ∙ sym first ∙ is)
 

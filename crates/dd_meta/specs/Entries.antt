@@ -1,5 +1,5 @@
 -- The listed addresses with their nodes, the dirty ones by age, and those that each slot is owed by.
-use Rattle.std.specs.Prelude.{◌≡◌, ℕ, ◌-◌, ◌==◌, ◌&&◌, not, Bool, false, List, [], ◌∷◌, ◌++◌, map, filter, find, length, Option, None, option_map, unwrap_or, if◌then◌else◌, slice_get}
+use Rattle.std.specs.Prelude.{◌≡◌, ℕ, ◌-◌, ◌==◌, ◌&&◌, not, Bool, false, List, [], ◌∷◌, ◌++◌, map, filter, find, length, Option, Some, None, option_map, unwrap_or, if◌then◌else◌, slice_get}
 use Rattle.std.specs.List.{list_any}
 use Rattle.dd_record.specs.declared.row.ARow.{ARow}
 use Rattle.dd_record.specs.declared.row.Link.TheVariants as links
@@ -65,15 +65,17 @@ owed_by slot row owed = if row.dirty && is_slot slot row.link then row.address �
 pub record Brings (old new : Meta) (address node : ℕ) : Type 0 where
   pub row : ARow
   pub is : row.address ≡ address
+  pub known : (known : ℕ) → node_of address old ≡ Some known → known ≡ node
   pub entries : new.entries ≡ record { node = node; row = row } ∷ filter (λ entry. not (entry.row.address == address)) old.entries
   pub dirty : new.dirty ≡ old.dirty
   pub owed : new.owed ≡ old.owed
   pub acap : new.acap ≡ old.acap
   pub slots : new.slots ≡ old.slots
 
--- the row in front of the others, at some node
+-- the row in front of the others, at the node that its address had or, where it wasn't listed, at some node
 pub record Fronts (old new : Meta) (row : ARow) : Type 0 where
   pub node : ℕ
+  pub known : (known : ℕ) → node_of row.address old ≡ Some known → known ≡ node
   pub entries : new.entries ≡ record { node = node; row = row } ∷ filter (λ entry. not (entry.row.address == row.address)) old.entries
   pub rows : rows_of new ≡ row ∷ filter (λ other. not (other.address == row.address)) (rows_of old)
   pub dirty : new.dirty ≡ dirty_by row old.dirty

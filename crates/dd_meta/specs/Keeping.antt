@@ -19,11 +19,12 @@ abbrev pub IsReferrer : ℕ → ℕ → List ARow → Option ℕ → Type 0
 IsReferrer slot skip rows None = list_any (λ row. refers slot skip row) rows ≡ false
 IsReferrer slot skip rows (Some address) = option_map (λ row. refers slot skip row) (a_row address rows) ≡ Some true
 
--- no address is listed twice, and no more than there is room for; a dirty one is linked, and stands once among
+-- no address is listed twice, nor two under one node, and no more than there is room for; a dirty one is linked, and stands once among
 -- the dirty ones and, where it has a slot, among those of the slot
 pub record IsMeta (meta : Meta) : Type 0 where
   pub some : 1 ≤ meta.acap
   pub few : length meta.entries ≤ meta.acap
+  pub nodes : IsDistinct (λ x y. x.node == y.node) meta.entries
   pub sized : length meta.owed ≡ meta.slots
   pub addresses : IsDistinct (λ x y. x.address == y.address) (rows_of meta)
   pub linked : AllByRecursion IsDirtyLinked (rows_of meta)

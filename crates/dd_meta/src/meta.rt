@@ -211,7 +211,7 @@ impl MetaCache {
 
     /// Takes the back entry away, which isn't dirty.
     pub fn drop_back(&mut self) -> ARow
-        requires some { 0 < length self.old.entries }
+        requires some { 0 < length (rows_of self.old) }
         requires clean { IfSome (slice_get (rows_of self.old) (length (rows_of self.old) - 1)) (λ row. row.dirty ≡ false) }
         ensures row { slice_get (rows_of self.old) (length (rows_of self.old) - 1) ≡ Some result }
         ensures after { self.new ≡ record self.old { entries = take (length self.old.entries - 1) self.old.entries } }

@@ -6,7 +6,7 @@ use Rattle.dd_lists.proofs.Members.{listed_from}
 use Rattle.dd_index.specs.Index.{Index, Inserts}
 use Rattle.dd_meta.specs.Entries.{Meta, Brings, is_listed_address}
 use Rattle.dd_meta.specs.Matching.{Matches, shown, listed}
-use Rattle.dd_meta.proofs.Rows.{first_in, first_out, entry_count}
+use Rattle.dd_meta.proofs.Rows.{first_in, first_node, first_out, entry_count}
 use Rattle.dd_meta.proofs.Fronting.{moved, moved_matches, moved_shown}
 use Rattle.dd_meta.proofs.Adding.{added, added_matches, added_shown}
 use Rattle.dd_meta.proofs.meta.MetaCache.bring.Goals as goal
@@ -24,7 +24,7 @@ returns-in-Some c =
     let here = first_in c.self.invariant c.args.address _ c.in-Some.node _ c.first.ensures c.from.ensures c.in-Some.is in
     subst (λ (m : Meta). Brings m (shown c.self.inside.acap c.self.inside.slots c.move_front.new.self) c.args.address c.in-Some.node) c.self.view_is
     (subst (λ (n : Nodes ARow). Brings (shown c.self.inside.acap c.self.inside.slots c.self.inside.nodes) (shown c.self.inside.acap c.self.inside.slots n) c.args.address c.in-Some.node) (sym c.move_front.ensures)
-    (moved_shown c.self.invariant c.in-Some.node here.0 c.args.address here.1))
+    (moved_shown c.self.invariant c.in-Some.node here.0 c.args.address here.1 (first_node c.self.invariant c.args.address _ c.in-Some.node _ c.first.ensures c.from.ensures c.in-Some.is)))
 
 pub add-node-requires : goal.add-node-requires
 add-node-requires c =
