@@ -81,3 +81,8 @@ fill_step rows n blank low d old new f have dirty = (
 pub drop_all : (rows : List ARow) → drop (length rows) rows ≡ []
 drop_all [] = refl
 drop_all (row ∷ rows) = drop_all rows
+
+-- three rows of three addresses
+pub three_apart : (a b c : ARow) → (a.address == b.address) ≡ false → (a.address == c.address) ≡ false → (b.address == c.address) ≡ false → IsDistinct (λ (x y : ARow). x.address == y.address) (a ∷ b ∷ c ∷ [])
+unfolding IsDistinct
+three_apart a b c ab ac bc = ((ab, (ac, tt)), ((bc, tt), (tt, tt)))

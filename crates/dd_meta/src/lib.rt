@@ -6,5 +6,7 @@
 
 mod lanes;
 mod meta;
+#[cfg(test)]
+mod tests;
 
 pub use meta::MetaCache;
