@@ -45,6 +45,12 @@ back_clean acap slots nodes now node is last clean =
     let it : slice_get (rows_of now) (length (rows_of now) - 1) ≡ Some (row_at nodes node) = sym (ap (λ (m : Meta). slice_get (rows_of m) (length (rows_of m) - 1)) is) ∙ back_row acap slots nodes node last in
     subst P it clean
 
+-- the rows of all entries but the last
+pub dropped_rows : (entries : List Entry) → map (λ (e : Entry). e.row) (take (length entries - 1) entries) ≡ take (length (map (λ (e : Entry). e.row) entries) - 1) (map (λ (e : Entry). e.row) entries)
+dropped_rows entries =
+    sym (take-map (λ (e : Entry). e.row) (length entries - 1) entries)
+    ∙ ap (λ n. take (n - 1) (map (λ (e : Entry). e.row) entries)) (sym (length-map entries (λ (e : Entry). e.row)))
+
 pub not_empty : (acap slots : ℕ) (nodes : Nodes ARow) (now : Meta) → shown acap slots nodes ≡ now → 0 < length (rows_of now) → slice_get (listed nodes) (length (listed nodes) - 1) ≡ None → ⊥
 not_empty acap slots nodes now is some none = by_list (listed nodes) none size
   where

@@ -10,13 +10,24 @@ use Rattle.dd_lists.specs.Lists.{is_in, is_listed, list_at, without, taken_out}
 use Rattle.dd_lists.specs.Nodes.{Nodes, value_at, is_live}
 use Rattle.dd_lists.proofs.Members.{in_cons, without_none, at_taken}
 use Rattle.dd_index.specs.Index.{Index}
-use Rattle.dd_meta.specs.Entries.{Entry, Meta, blank, unlinked}
+use Rattle.dd_meta.specs.Entries.{Entry, Meta, blank, unlinked, unlinked_row}
 use Rattle.dd_meta.specs.Matching.{row_at, address_of, entry_of, listed, waiting, waiting_by, shown, home_of, is_home, with_row, Matches, IsClean, Unlinks}
 use Rattle.dd_meta.proofs.Numbers.{map_same, map_in_same, map_map, taken_none, less_without}
 use Rattle.dd_meta.proofs.Homes.{clean_home, dirty_home, home_size}
 use Rattle.dd_meta.proofs.Owed.{owed_same}
 use Rattle.dd_meta.proofs.Waiting.{one_list, wait_size}
 use Rattle.dd_meta.proofs.Writing.{written_matches, at_same, at_other, address_same}
+
+-- the rows of entries without their links
+pub unlinked_rows : (slot : ℕ) (entries : List Entry) → map (λ (e : Entry). e.row) (map (unlinked slot) entries) ≡ map (unlinked_row slot) (map (λ (e : Entry). e.row) entries)
+unlinked_rows slot [] = refl
+unlinked_rows slot (e ∷ entries) = step (is_slot slot e.row.link) (unlinked_rows slot entries)
+  where
+    step : (b : Bool) → map (λ (x : Entry). x.row) (map (unlinked slot) entries) ≡ map (unlinked_row slot) (map (λ (x : Entry). x.row) entries)
+        → (cond b (record { node = e.node; row = record { address = e.row.address; link = Lost; dirty = e.row.dirty; fp = e.row.fp } }) e).row ∷ map (λ (x : Entry). x.row) (map (unlinked slot) entries)
+        ≡ cond b (record { address = e.row.address; link = Lost; dirty = e.row.dirty; fp = e.row.fp }) e.row ∷ map (unlinked_row slot) (map (λ (x : Entry). x.row) entries)
+    step true later = ap (λ (l : List ARow). record { address = e.row.address; link = Lost; dirty = e.row.dirty; fp = e.row.fp } ∷ l) later
+    step false later = ap (λ (l : List ARow). e.row ∷ l) later
 
 -- what one node's link or more may have become
 pub record Step (slot acap slots : ℕ) (index : Index) (old new : Nodes ARow) : Type 0 where

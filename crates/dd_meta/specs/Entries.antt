@@ -100,6 +100,9 @@ pub record Writes (old new : Meta) (node : ℕ) (row : ARow) : Type 0 where
   pub acap : new.acap ≡ old.acap
   pub slots : new.slots ≡ old.slots
 
--- an entry without its link to a slot
+-- a row, and an entry, without its link to a slot
+abbrev pub unlinked_row : ℕ → ARow → ARow
+unlinked_row slot row = if is_slot slot row.link then record row { link = links.Lost } else row
+
 abbrev pub unlinked : ℕ → Entry → Entry
 unlinked slot entry = if is_slot slot entry.row.link then record { node = entry.node; row = record entry.row { link = links.Lost } } else entry

@@ -9,7 +9,7 @@ ghost use Rattle.dd_lists.specs.Nodes.{is_live};
 ghost use Rattle.dd_meta.specs.Matching.{IsBelow};
 ghost use Rattle.dd_meta.specs.Keeping.{IsMeta, IsReferrer};
 ghost use Rattle.dd_meta.specs.Walks.{but, next_of, IsWalked};
-ghost use Rattle.dd_meta.specs.Entries.{rows_of, node_of, row_of, row_named, owed_to, is_listed_address, last_address, Brings, Fronts, Writes, unlinked};
+ghost use Rattle.dd_meta.specs.Entries.{rows_of, node_of, row_of, row_named, owed_to, is_listed_address, last_address, Brings, Fronts, Writes, unlinked, unlinked_row};
 
 mod filling;
 
@@ -215,6 +215,7 @@ impl MetaCache {
         requires clean { IfSome (slice_get (rows_of self.old) (length (rows_of self.old) - 1)) (λ row. row.dirty ≡ false) }
         ensures row { slice_get (rows_of self.old) (length (rows_of self.old) - 1) ≡ Some result }
         ensures after { self.new ≡ record self.old { entries = take (length self.old.entries - 1) self.old.entries } }
+        ensures rows { rows_of self.new ≡ take (length (rows_of self.old) - 1) (rows_of self.old) }
         ensures keeps { IsMeta self.new }
     {
         match self.nodes.back(Lane::Recency, ALL) {
@@ -233,6 +234,7 @@ impl MetaCache {
         requires below { slot < self.old.slots }
         requires clean { AllByRecursion (λ row. is_slot slot row.link ≡ true → row.dirty ≡ false) (rows_of self.old) }
         ensures after { self.new ≡ record self.old { entries = map (unlinked slot) self.old.entries } }
+        ensures rows { rows_of self.new ≡ map (unlinked_row slot) (rows_of self.old) }
         ensures keeps { IsMeta self.new }
     {
         unlink_referrers(&mut self.nodes, self.slots, slot);

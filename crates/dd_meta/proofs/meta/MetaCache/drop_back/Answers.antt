@@ -4,7 +4,7 @@ use Rattle.dd_lists.specs.Lists.{taken_out}
 use Rattle.dd_lists.specs.Nodes.{Nodes, IsUnlisted, value_at}
 use Rattle.dd_meta.specs.Entries.{Meta, rows_of}
 use Rattle.dd_meta.specs.Matching.{Matches, shown, row_at}
-use Rattle.dd_meta.proofs.Dropping.{back_clean, back_row, back_stored, back_unlisted, not_empty, dropped_matches, dropped_shown, value_is}
+use Rattle.dd_meta.proofs.Dropping.{back_clean, back_row, back_stored, back_unlisted, not_empty, dropped_matches, dropped_shown, dropped_rows, value_is}
 use Rattle.dd_meta.proofs.Facts.{meta_kept}
 use Rattle.dd_meta.proofs.meta.MetaCache.drop_back.Goals as goal
 
@@ -54,3 +54,11 @@ returns-clause-keeps c =
     let after = c.unlink.ensures ∙ ap (λ (n : Nodes ARow). record { values = n.values; recency = taken_out c.in-Some.node n.recency; referrers = n.referrers; waiting = n.waiting }) c.leave.ensures in
     let all = c.remove-in-Some.ensures.after ∙ ap (λ (n : Nodes ARow). record { values = set n.values c.in-Some.node None; recency = n.recency; referrers = n.referrers; waiting = n.waiting }) after in
     meta_kept (subst (λ (n : Nodes ARow). Matches c.self.inside.acap c.self.inside.slots n c.remove.new.self) (sym all) (dropped_matches c.self.invariant c.in-Some.node last clean c.remove.new.self c.remove.ensures))
+
+pub returns-clause-rows : goal.returns-clause-rows
+returns-clause-rows c =
+    let last = sym c.back.ensures.last ∙ c.in-Some.is in
+    let clean = back_clean c.self.inside.acap c.self.inside.slots c.self.inside.nodes c.args.self.now c.in-Some.node c.self.view_is last c.requires.clean in
+    let after = c.unlink.ensures ∙ ap (λ (n : Nodes ARow). record { values = n.values; recency = taken_out c.in-Some.node n.recency; referrers = n.referrers; waiting = n.waiting }) c.leave.ensures in
+    let all = c.remove-in-Some.ensures.after ∙ ap (λ (n : Nodes ARow). record { values = set n.values c.in-Some.node None; recency = n.recency; referrers = n.referrers; waiting = n.waiting }) after in
+    ap rows_of (ap (shown c.self.inside.acap c.self.inside.slots) all ∙ dropped_shown c.self.invariant c.in-Some.node last clean c.remove.new.self c.remove.ensures c.args.self.now c.self.view_is) ∙ dropped_rows c.args.self.now.entries
