@@ -1,13 +1,13 @@
 -- An address made clean, said of rows and of addresses.
-use Rattle.std.proofs.Common.{◌≡◌, inl, inr, ℕ, ◌==◌, not, Bool, true, false, List, [], ◌∷◌, map, refl, sym, ◌∙◌, ap, subst, Option, Some, None, cond, is_some}
+use Rattle.std.proofs.Common.{◌≡◌, ℕ, ◌==◌, not, Bool, true, false, List, [], ◌∷◌, map, refl, sym, ◌∙◌, ap, subst, Option, Some, None, cond, is_some}
 use Rattle.std.specs.Prelude.{option_and_then, unwrap_or}
 use Rattle.std.specs.List.{AllByRecursion, IsDistinct}
-use Rattle.std.proofs.lemmas.Bool.{eq-eqb, ne_eqb, eqb-true, both_ways}
+use Rattle.std.proofs.lemmas.Bool.{eqb-true, both_ways}
 use Rattle.dd_record.specs.declared.row.ARow.{ARow}
 use Rattle.dd_record.specs.Table.{a_row, is_dirty, is_dirty_at}
-use Rattle.dd_record.specs.Replay.{cleaned, cleaned_row}
+use Rattle.dd_record.specs.Replay.{cleaned}
 use Rattle.dd_lists.specs.Lists.{without}
-use Rattle.dd_meta.specs.Entries.{Meta, Writes, blank, rows_of, row_of, row_named, owed_to, replaced}
+use Rattle.dd_meta.specs.Entries.{Meta, Writes, blank, rows_of, row_of, row_named, owed_to}
 use Rattle.dd_meta.specs.Keeping.{IsMeta}
 use Rattle.dd_meta.specs.Walks.{but}
 use Rattle.dd_meta.proofs.Marking.{marked}

@@ -1,5 +1,5 @@
 -- A metadata cache from which the last address falls off until none is left.
-use Rattle.std.proofs.Common.{◌≡◌, inl, inr, ℕ, zero, suc, ◌-◌, ◌<◌, ◌==◌, Bool, true, false, List, [], ◌∷◌, length, map, refl, sym, ◌∙◌, ap, subst, arith, Option, Some, None, cond, slice_get, replicate, is_some, IfSome}
+use Rattle.std.proofs.Common.{◌≡◌, ℕ, ◌-◌, ◌==◌, true, false, List, [], ◌∷◌, length, map, refl, sym, ◌∙◌, ap, subst, arith, Option, Some, None, cond, slice_get, replicate, is_some, IfSome}
 use Rattle.std.specs.Prelude.{option_map, ◌&&◌}
 use Rattle.std.specs.List.{list_any}
 use Rattle.std.proofs.lemmas.Bool.{eq-eqb, both_ways}
@@ -11,7 +11,7 @@ use Rattle.dd_lists.specs.Lists.{is_in, list_at}
 use Rattle.dd_lists.specs.Nodes.{Nodes, is_live}
 use Rattle.dd_lists.proofs.Members.{in_here}
 use Rattle.dd_index.specs.Index.{Index}
-use Rattle.dd_meta.specs.Entries.{Entry, Meta, rows_of, row_of, written, owed_to}
+use Rattle.dd_meta.specs.Entries.{Entry, Meta, row_of, written}
 use Rattle.dd_meta.specs.Matching.{row_at, listed, shown, Matches}
 use Rattle.dd_meta.specs.Keeping.{IsMeta, is_owed}
 use Rattle.dd_meta.proofs.Rows.{row_is, find_itself, no_list}

@@ -1,25 +1,25 @@
 -- What a metadata cache that matches shows, as facts on what it shows.
-use Rattle.std.proofs.Common.{◌≡◌, ◌≢◌, inl, inr, ℕ, ◌+◌, ◌<◌, ◌≤◌, ◌==◌, not, Bool, true, false, List, [], ◌∷◌, ◌++◌, length, map, refl, sym, ◌∙◌, ap, subst, arith, Option, Some, None, cond, reverse, slice_get, count_by, is_some, IsTrue}
-use Rattle.std.specs.Prelude.{◌&&◌, ◌||◌, find, option_map, unwrap_or}
+use Rattle.std.proofs.Common.{◌≡◌, inl, inr, ℕ, ◌<◌, ◌≤◌, ◌==◌, Bool, true, false, List, [], ◌∷◌, ◌++◌, length, map, refl, sym, ◌∙◌, ap, subst, arith, Option, Some, None, reverse, count_by, is_some}
+use Rattle.std.specs.Prelude.{◌&&◌, ◌||◌, find, option_map}
 use Rattle.std.specs.List.{AllByRecursion, IsDistinct, list_any}
-use Rattle.std.proofs.lemmas.Bool.{eq-eqb, ne_eqb, eqb-true, eqb-false, both_ways, cases_eq, cases_lt, and_parts, or_cases, or_left, or_right}
+use Rattle.std.proofs.lemmas.Bool.{eq-eqb, ne_eqb, eqb-true, both_ways, cases_lt, and_parts, or_cases, or_left, or_right}
 use Rattle.std.proofs.lemmas.List.{length-map}
 use Rattle.std.proofs.lemmas.List.Sums.{count_by-le-length}
 use Rattle.dd_record.specs.declared.row.ARow.{ARow}
-use Rattle.dd_record.specs.Table.{is_slot, is_dirty_at, is_dirty, is_link, IsDirtyLinked}
+use Rattle.dd_record.specs.Table.{is_slot, is_dirty_at, is_dirty, IsDirtyLinked}
 use Rattle.dd_lists.specs.Lists.{is_in, list_at}
 use Rattle.dd_lists.specs.Nodes.{Nodes}
 use Rattle.dd_lists.proofs.Members.{in_cons, in_here, in_later, distinct_none, distinct_front}
 use Rattle.dd_index.specs.Index.{Index}
-use Rattle.dd_meta.specs.Entries.{Entry, Meta, rows_of, owed_to}
-use Rattle.dd_meta.specs.Matching.{row_at, address_of, entry_of, listed, waiting, shown, IsBelow, home_of, is_home, Matches}
+use Rattle.dd_meta.specs.Entries.{Entry, rows_of, owed_to}
+use Rattle.dd_meta.specs.Matching.{row_at, address_of, entry_of, listed, waiting, shown, IsBelow, Matches}
 use Rattle.dd_meta.specs.Keeping.{is_owed, IsMeta}
 use Rattle.dd_meta.proofs.Numbers.{map_map, in_reverse, rev_cons, head_out, rest_distinct}
 use Rattle.dd_meta.proofs.Homes.{dirty_home, no_slot}
 use Rattle.dd_meta.proofs.Owed.{owed_low, owed_past, owed_size}
 use Rattle.dd_meta.proofs.Rows.{find_map, find_in, find_out}
 use Rattle.dd_meta.proofs.Stepping.{mapped_from}
-use Rattle.dd_meta.proofs.Walking.{mapped_once, owed_once, wait_inside, owed_inside}
+use Rattle.dd_meta.proofs.Walking.{mapped_once, owed_once, wait_inside}
 
 pub bool_same : (a b : Bool) → (a ≡ true → b ≡ true) → (b ≡ true → a ≡ true) → a ≡ b
 bool_same true b to from = sym (to refl)

@@ -1,14 +1,14 @@
 -- Rows taken in from the last one on.
-use Rattle.std.proofs.Common.{◌≡◌, ◌≢◌, inl, inr, ℕ, zero, suc, ◌+◌, ◌-◌, ◌<◌, ◌≤◌, ◌==◌, not, Bool, true, false, List, [], ◌∷◌, ◌++◌, length, map, refl, sym, ◌∙◌, ap, subst, arith, cond, reverse, drop, get_or}
+use Rattle.std.proofs.Common.{◌≡◌, ℕ, zero, suc, ◌+◌, ◌<◌, ◌==◌, not, Bool, true, false, List, [], ◌∷◌, ◌++◌, length, map, refl, sym, ◌∙◌, ap, subst, cond, reverse, drop, get_or}
 use Rattle.std.specs.Prelude.{filter, ◌||◌}
 use Rattle.std.specs.List.{AllByRecursion, IsDistinct, list_any}
-use Rattle.std.proofs.lemmas.Bool.{eq-eqb, ne_eqb, both_ways, or_parts}
+use Rattle.std.proofs.lemmas.Bool.{or_parts}
 use Rattle.std.proofs.lemmas.List.{reverse-append, map-append, drop_more}
 use Rattle.std.proofs.lemmas.List.Elements.{filter-append}
 use Rattle.dd_record.specs.declared.row.ARow.{ARow}
 use Rattle.dd_lists.specs.Lists.{is_in, without}
 use Rattle.dd_lists.proofs.Members.{without_none}
-use Rattle.dd_meta.specs.Entries.{Entry, Meta, Fronts, rows_of, dirty_by, with_dirty}
+use Rattle.dd_meta.specs.Entries.{Meta, Fronts, rows_of, dirty_by}
 use Rattle.dd_meta.specs.Walks.{dirty_of_rows}
 use Rattle.dd_meta.proofs.Numbers.{in_append, filter_all}
 use Rattle.dd_meta.proofs.Stepping.{turn}

@@ -1,25 +1,21 @@
 -- What bringing an address to the front makes of a metadata cache, listed before or new.
-use Rattle.std.proofs.Common.{◌≡◌, ◌≢◌, inl, inr, ℕ, zero, suc, ◌+◌, ◌<◌, ◌==◌, not, Bool, true, false, List, [], ◌∷◌, length, map, refl, sym, ◌∙◌, ap, subst, arith, Option, Some, None, get_or, set, cond, is_some, count_by, reverse}
+use Rattle.std.proofs.Common.{◌≡◌, inl, inr, ℕ, ◌+◌, ◌==◌, not, Bool, true, false, List, [], ◌∷◌, length, map, refl, sym, ◌∙◌, ap, subst, arith, Option, Some, None, cond, is_some, count_by}
 use Rattle.std.specs.Prelude.{◌&&◌, ◌||◌, filter, find, option_map, unwrap_or}
-use Rattle.std.specs.List.{IsDistinct, list_any}
-use Rattle.std.proofs.lemmas.Bool.{eq-eqb, ne_eqb, eqb-true, cases_eq, both_ways, and_parts, or_parts}
-use Rattle.std.proofs.lemmas.List.{get_or-set_same, get_or-set_other, length-set, length-map}
-use Rattle.std.proofs.lemmas.List.Sums.{sum_by-set}
-use Rattle.dd_block.specs.declared.print.Fp.{Fp}
+use Rattle.std.specs.List.{IsDistinct}
+use Rattle.std.proofs.lemmas.Bool.{eq-eqb, ne_eqb, cases_eq, both_ways}
+use Rattle.std.proofs.lemmas.List.{length-map}
 use Rattle.dd_record.specs.declared.row.ARow.{ARow}
-use Rattle.dd_record.specs.declared.row.Link.TheVariants.{Lost}
 use Rattle.dd_record.specs.Table.{is_link}
-use Rattle.dd_lists.specs.Lists.{is_in, list_at, without, fronted, put_front, moved_front}
+use Rattle.dd_lists.specs.Lists.{is_in, list_at, without, fronted, moved_front}
 use Rattle.dd_lists.specs.Nodes.{Nodes, value_at, is_live}
-use Rattle.dd_lists.proofs.Members.{in_cons, in_here, in_without_other, distinct_front, at_moved, at_put}
-use Rattle.dd_index.specs.Index.{Index, nodes_of, Inserts}
-use Rattle.dd_meta.specs.Entries.{Entry, Meta, Brings, Writes, Fronts, blank, rows_of, node_of, row_of, written, dirty_by, owed_by, is_listed_address}
-use Rattle.dd_meta.specs.Matching.{row_at, address_of, entry_of, listed, waiting, shown, IsBelow, home_of, is_home, with_row, Matches}
-use Rattle.dd_meta.proofs.Numbers.{map_in_same, map_map, head_out, fewer, filter_map, filter_all, in_reverse}
+use Rattle.dd_lists.proofs.Members.{in_here, in_without_other, at_moved}
+use Rattle.dd_index.specs.Index.{Index}
+use Rattle.dd_meta.specs.Entries.{Entry, Meta, Brings, Writes, Fronts, blank, rows_of, node_of, row_of, written, dirty_by, owed_by}
+use Rattle.dd_meta.specs.Matching.{row_at, address_of, entry_of, listed, shown, IsBelow, home_of, is_home, with_row, Matches}
+use Rattle.dd_meta.proofs.Numbers.{map_in_same, map_map, head_out, fewer, filter_map}
 use Rattle.dd_meta.proofs.Homes.{put_once}
 use Rattle.dd_meta.proofs.Marking.{named_live, named_is}
 use Rattle.dd_meta.proofs.Writing.{written_matches, written_shown}
-use Rattle.dd_meta.proofs.Owed.{owed_same}
 use Rattle.dd_meta.proofs.Waiting.{tells}
 
 -- a number taken out of its list and put in front of it

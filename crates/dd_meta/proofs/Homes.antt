@@ -4,13 +4,12 @@ use Rattle.std.specs.Prelude.{◌&&◌, ◌||◌}
 use Rattle.std.specs.List.{IsDistinct}
 use Rattle.std.proofs.lemmas.Bool.{eq-eqb, ne_eqb, cases_eq}
 use Rattle.std.proofs.lemmas.List.{length-set, length-map}
-use Rattle.dd_record.specs.declared.row.ARow.{ARow}
 use Rattle.dd_record.specs.declared.row.Link.{Link}
 use Rattle.dd_record.specs.declared.row.Link.TheVariants.{Lost, Slot, Zero}
 use Rattle.dd_record.specs.Table.{is_slot}
 use Rattle.dd_lists.specs.Lists.{is_in, list_at, without, put_front, taken_out}
 use Rattle.dd_lists.proofs.Members.{in_here, in_without_other, gone, distinct_without, distinct_front, at_taken, at_put, at_put_other}
-use Rattle.dd_meta.specs.Matching.{IsBelow, home_by, home_of, is_home, referring_by}
+use Rattle.dd_meta.specs.Matching.{IsBelow, home_by, is_home, referring_by}
 
 pub home_size : (home : Option ℕ) (node : ℕ) (lists : List (List ℕ)) → length (referring_by home node lists) ≡ length lists
 home_size None node lists = length-map lists (without node)

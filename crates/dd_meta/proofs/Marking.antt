@@ -6,7 +6,7 @@ use Rattle.dd_record.specs.Table.{is_link}
 use Rattle.dd_lists.specs.Nodes.{Nodes, value_at, is_live}
 use Rattle.dd_index.specs.Index.{Index}
 use Rattle.dd_meta.specs.Entries.{Meta, Writes, blank, row_of, row_named}
-use Rattle.dd_meta.specs.Matching.{row_at, shown, IsBelow, with_row, Matches}
+use Rattle.dd_meta.specs.Matching.{shown, IsBelow, with_row, Matches}
 use Rattle.dd_meta.proofs.Rows.{row_live, row_got}
 use Rattle.dd_meta.proofs.Writing.{written_matches, written_shown}
 

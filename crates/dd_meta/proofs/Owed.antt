@@ -1,12 +1,12 @@
 -- The dirty addresses of each slot, as nodes show them.
-use Rattle.std.proofs.Common.{◌≡◌, inl, inr, ℕ, ◌+◌, ◌<◌, ◌≤◌, List, [], length, map, refl, sym, ◌∙◌, ap, subst, arith}
+use Rattle.std.proofs.Common.{◌≡◌, ℕ, ◌+◌, ◌<◌, ◌≤◌, [], length, map, refl, sym, ◌∙◌, ap, subst, arith}
 use Rattle.std.specs.Prelude.{take}
 use Rattle.std.proofs.lemmas.List.{get_or-take, length-take-le, length-map, ext_get_or}
 use Rattle.dd_record.specs.declared.row.ARow.{ARow}
 use Rattle.dd_lists.specs.Lists.{list_at}
 use Rattle.dd_lists.specs.Nodes.{Nodes}
 use Rattle.dd_lists.proofs.Members.{at_map, at_past}
-use Rattle.dd_meta.specs.Entries.{Meta, owed_to}
+use Rattle.dd_meta.specs.Entries.{owed_to}
 use Rattle.dd_meta.specs.Matching.{address_of, shown}
 
 module _ (acap slots : ℕ) (nodes : Nodes ARow) (two : length nodes.referrers ≡ slots + slots) where

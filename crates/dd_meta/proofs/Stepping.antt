@@ -1,13 +1,13 @@
 -- Steps along lists of numbers: under a map that tells a number apart, back to front, and past one of them.
-use Rattle.std.proofs.Common.{◌≡◌, ◌≢◌, inl, inr, ℕ, ◌==◌, not, Bool, true, false, List, [], ◌∷◌, ◌++◌, map, refl, sym, ◌∙◌, ap, subst, Option, Some, None, cond, reverse, slice_get, IfSome}
-use Rattle.std.specs.Prelude.{filter, option_map, ◌||◌}
+use Rattle.std.proofs.Common.{◌≡◌, ◌≢◌, inl, inr, ℕ, ◌==◌, not, Bool, true, false, List, [], ◌∷◌, ◌++◌, map, refl, sym, ◌∙◌, ap, Option, Some, None, cond, reverse, slice_get}
+use Rattle.std.specs.Prelude.{option_map, ◌||◌}
 use Rattle.std.specs.List.{IsDistinct}
 use Rattle.std.proofs.lemmas.Bool.{eq-eqb, ne_eqb, eqb-true, eqb-false, both_ways, cases_eq, or_parts}
 use Rattle.std.proofs.lemmas.List.{append_assoc}
 use Rattle.dd_record.specs.Listed.{row_behind}
-use Rattle.dd_lists.specs.Lists.{is_in, without, behind, before, before_from}
+use Rattle.dd_lists.specs.Lists.{is_in, behind, before, before_from}
 use Rattle.dd_lists.proofs.Members.{in_cons, in_here, in_later, distinct_none, distinct_front}
-use Rattle.dd_meta.specs.Walks.{but, next_of}
+use Rattle.dd_meta.specs.Walks.{but}
 use Rattle.dd_meta.proofs.Numbers.{rev_cons, in_reverse, head_out, rest_distinct}
 
 pub turn : (a b : ℕ) → (a == b) ≡ (b == a)

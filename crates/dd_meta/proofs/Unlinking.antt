@@ -1,18 +1,18 @@
 -- Taking the links to a slot, one node after the other.
-use Rattle.std.proofs.Common.{◌≡◌, ◌≢◌, inl, inr, ℕ, zero, suc, ◌+◌, ◌<◌, ◌==◌, not, Bool, true, false, List, [], ◌∷◌, length, map, refl, sym, ◌∙◌, ap, subst, arith, Option, Some, None, cond, slice_get, reverse}
+use Rattle.std.proofs.Common.{◌≡◌, ◌≢◌, inl, inr, ℕ, ◌+◌, ◌<◌, not, Bool, true, false, List, [], ◌∷◌, length, map, refl, sym, ◌∙◌, ap, subst, Some, None, cond, slice_get, reverse}
 use Rattle.std.specs.Prelude.{◌&&◌, unwrap_or}
 use Rattle.std.specs.List.{AllByRecursion}
-use Rattle.std.proofs.lemmas.Bool.{eq-eqb, cases_eq, both_ways, and_parts}
+use Rattle.std.proofs.lemmas.Bool.{cases_eq, both_ways, and_parts}
 use Rattle.dd_record.specs.declared.row.ARow.{ARow}
 use Rattle.dd_record.specs.declared.row.Link.TheVariants.{Lost}
 use Rattle.dd_record.specs.Table.{is_slot}
-use Rattle.dd_lists.specs.Lists.{is_in, is_listed, list_at, without, taken_out}
+use Rattle.dd_lists.specs.Lists.{is_in, list_at}
 use Rattle.dd_lists.specs.Nodes.{Nodes, value_at, is_live}
 use Rattle.dd_lists.proofs.Members.{in_cons, without_none, at_taken}
 use Rattle.dd_index.specs.Index.{Index}
-use Rattle.dd_meta.specs.Entries.{Entry, Meta, blank, unlinked, unlinked_row}
+use Rattle.dd_meta.specs.Entries.{Entry, blank, unlinked, unlinked_row}
 use Rattle.dd_meta.specs.Matching.{row_at, address_of, entry_of, listed, waiting, waiting_by, shown, home_of, is_home, with_row, Matches, IsClean, Unlinks}
-use Rattle.dd_meta.proofs.Numbers.{map_same, map_in_same, map_map, taken_none, less_without}
+use Rattle.dd_meta.proofs.Numbers.{map_same, map_in_same, map_map, taken_none}
 use Rattle.dd_meta.proofs.Homes.{clean_home, dirty_home, home_size}
 use Rattle.dd_meta.proofs.Owed.{owed_same}
 use Rattle.dd_meta.proofs.Waiting.{one_list, wait_size}

@@ -1,5 +1,5 @@
 -- What writing another row under a node makes of a metadata cache, where the node goes where the row belongs.
-use Rattle.std.proofs.Common.{◌≡◌, ◌≢◌, inl, inr, ℕ, ◌+◌, ◌<◌, ◌==◌, Bool, true, false, List, [], ◌∷◌, length, map, refl, sym, ◌∙◌, ap, subst, arith, Option, Some, None, get_or, set, cond, is_some, count_by, reverse, IfSome}
+use Rattle.std.proofs.Common.{◌≡◌, ◌≢◌, inl, inr, ℕ, ◌+◌, ◌<◌, ◌==◌, Bool, true, false, List, [], ◌∷◌, length, map, refl, sym, ◌∙◌, ap, subst, arith, Some, None, get_or, set, cond, is_some, count_by, reverse, IfSome}
 use Rattle.std.specs.Prelude.{◌&&◌, unwrap_or}
 use Rattle.std.specs.List.{IsDistinct}
 use Rattle.std.proofs.lemmas.Bool.{eq-eqb, ne_eqb, cases_eq, cases_lt, both_ways, and_parts}
@@ -10,7 +10,7 @@ use Rattle.dd_record.specs.Table.{is_slot, is_link}
 use Rattle.dd_lists.specs.Lists.{is_in, list_at, without}
 use Rattle.dd_lists.specs.Nodes.{Nodes, value_at, is_live}
 use Rattle.dd_index.specs.Index.{Index}
-use Rattle.dd_meta.specs.Entries.{Entry, Meta, Writes, blank, owed_to, owed_by, dirty_by, written, replaced, rows_of, with_dirty}
+use Rattle.dd_meta.specs.Entries.{Entry, Writes, blank, owed_to, owed_by, written, replaced, rows_of, with_dirty}
 use Rattle.dd_meta.specs.Matching.{row_at, address_of, entry_of, listed, waiting, shown, IsBelow, home_of, is_home, with_row, Matches}
 use Rattle.dd_meta.proofs.Homes.{home_size, home_list, put_it, put_rest, put_once, home_low, dirty_home, no_slot}
 use Rattle.dd_meta.proofs.Numbers.{map_same, map_in_same, map_map, map_without}

@@ -1,5 +1,5 @@
 -- The listed addresses with their nodes, the dirty ones by age, and those that each slot is owed by.
-use Rattle.std.specs.Prelude.{◌≡◌, ℕ, ◌-◌, ◌==◌, ◌&&◌, not, Bool, false, List, [], ◌∷◌, ◌++◌, map, filter, find, length, Option, Some, None, option_map, unwrap_or, if◌then◌else◌, slice_get}
+use Rattle.std.specs.Prelude.{◌≡◌, ℕ, ◌-◌, ◌==◌, ◌&&◌, not, Bool, false, List, [], ◌∷◌, ◌++◌, map, filter, find, length, Option, Some, option_map, unwrap_or, if◌then◌else◌, slice_get}
 use Rattle.std.specs.List.{list_any}
 use Rattle.dd_record.specs.declared.row.ARow.{ARow}
 use Rattle.dd_record.specs.declared.row.Link.TheVariants as links

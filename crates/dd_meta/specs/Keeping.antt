@@ -1,5 +1,5 @@
 -- What holds of every metadata cache, said of what it shows.
-use Rattle.std.specs.Prelude.{◌≡◌, ℕ, ◌≤◌, ◌==◌, ◌&&◌, not, Bool, true, false, List, length, Option, Some, None, option_map, map}
+use Rattle.std.specs.Prelude.{◌≡◌, ℕ, ◌≤◌, ◌==◌, ◌&&◌, not, Bool, true, false, List, length, Option, Some, None, option_map}
 use Rattle.std.specs.List.{AllByRecursion, IsDistinct, list_any}
 use Rattle.dd_record.specs.declared.row.ARow.{ARow}
 use Rattle.dd_record.specs.Table.{is_slot, a_row, is_dirty_at, IsDirtyLinked}

@@ -1,5 +1,5 @@
 -- How entries are kept: nodes in three lanes, and an index of their addresses.
-use Rattle.std.specs.Prelude.{◌≡◌, ℕ, ◌+◌, ◌<◌, ◌^◌, ◌==◌, ◌&&◌, Bool, true, false, List, [], map, reverse, take, length, Option, Some, None, unwrap_or, if◌then◌else◌, slice_set, ⊤}
+use Rattle.std.specs.Prelude.{◌≡◌, ℕ, ◌+◌, ◌<◌, ◌^◌, ◌==◌, ◌&&◌, Bool, true, false, List, map, reverse, take, length, Option, Some, None, unwrap_or, if◌then◌else◌, slice_set, ⊤}
 use Rattle.std.specs.List.{IsDistinct}
 use Rattle.dd_record.specs.declared.row.ARow.{ARow}
 use Rattle.dd_record.specs.declared.row.Link.{Link}

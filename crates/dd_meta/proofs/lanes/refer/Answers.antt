@@ -1,4 +1,4 @@
-use Rattle.std.proofs.Common.{◌≡◌, ◌∙◌, ap}
+use Rattle.std.proofs.Common.{◌∙◌, ap}
 use Rattle.dd_lists.specs.Lists.{is_listed}
 use Rattle.dd_lists.proofs.Views.{taken_free}
 use Rattle.dd_record.specs.declared.row.ARow.{ARow}

@@ -1,14 +1,14 @@
-use Rattle.std.proofs.Common.{◌≡◌, ◌∙◌, ℕ, ◌<◌, ap, sym, subst, arith, false, length, Some}
+use Rattle.std.proofs.Common.{◌≡◌, ◌∙◌, ℕ, ◌<◌, ap, sym, subst, arith, false, length}
 use Rattle.dd_record.specs.declared.row.ARow.{ARow}
-use Rattle.dd_lists.specs.Lists.{put_front, is_in}
+use Rattle.dd_lists.specs.Lists.{put_front}
 use Rattle.dd_lists.specs.Nodes.{Nodes}
 use Rattle.dd_lists.proofs.Members.{listed_from}
-use Rattle.dd_index.specs.Index.{Index, Inserts}
+use Rattle.dd_index.specs.Index.{Inserts}
 use Rattle.dd_meta.specs.Entries.{Meta, Brings, is_listed_address}
-use Rattle.dd_meta.specs.Matching.{Matches, shown, listed}
+use Rattle.dd_meta.specs.Matching.{Matches, shown}
 use Rattle.dd_meta.proofs.Rows.{first_in, first_node, first_out, entry_count}
-use Rattle.dd_meta.proofs.Fronting.{moved, moved_matches, moved_shown}
-use Rattle.dd_meta.proofs.Adding.{added, added_matches, added_shown}
+use Rattle.dd_meta.proofs.Fronting.{moved_matches, moved_shown}
+use Rattle.dd_meta.proofs.Adding.{added_matches, added_shown}
 use Rattle.dd_meta.proofs.meta.MetaCache.bring.Goals as goal
 
 pub move_front-requires : goal.move_front-requires

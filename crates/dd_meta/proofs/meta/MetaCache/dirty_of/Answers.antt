@@ -1,4 +1,4 @@
-use Rattle.std.proofs.Common.{◌≡◌, ◌∙◌, ◌<◌, ap, sym, subst, None, ℕ}
+use Rattle.std.proofs.Common.{◌∙◌, ◌<◌, ap, sym, subst, None, ℕ}
 use Rattle.dd_lists.specs.Lists.{list_at}
 use Rattle.dd_lists.proofs.Keys.{first_in_list}
 use Rattle.dd_meta.specs.Entries.{Meta, owed_to}

@@ -1,9 +1,9 @@
-use Rattle.std.proofs.Common.{◌≡◌, ◌∙◌, ◌-◌, ap, sym, subst, set, None, false, Some, slice_get, length}
+use Rattle.std.proofs.Common.{◌∙◌, ◌-◌, ap, sym, subst, set, None, slice_get, length}
 use Rattle.dd_record.specs.declared.row.ARow.{ARow}
 use Rattle.dd_lists.specs.Lists.{taken_out}
 use Rattle.dd_lists.specs.Nodes.{Nodes, IsUnlisted, value_at}
 use Rattle.dd_meta.specs.Entries.{Meta, rows_of}
-use Rattle.dd_meta.specs.Matching.{Matches, shown, row_at}
+use Rattle.dd_meta.specs.Matching.{Matches, shown}
 use Rattle.dd_meta.proofs.Dropping.{back_clean, back_row, back_stored, back_unlisted, not_empty, dropped_matches, dropped_shown, dropped_rows, value_is}
 use Rattle.dd_meta.proofs.Facts.{meta_kept}
 use Rattle.dd_meta.proofs.meta.MetaCache.drop_back.Goals as goal

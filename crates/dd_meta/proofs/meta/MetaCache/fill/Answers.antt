@@ -1,6 +1,5 @@
-use Rattle.std.proofs.Common.{◌≡◌, ◌+◌, ◌-◌, ◌<◌, ℕ, length, drop, sym, ◌∙◌, ap, arith, refl, map}
-use Rattle.dd_record.specs.declared.row.ARow.{ARow}
-use Rattle.dd_meta.specs.Entries.{Entry, rows_of, blank}
+use Rattle.std.proofs.Common.{◌≡◌, ◌+◌, ◌-◌, ◌<◌, length, drop, sym, ◌∙◌, ap, arith, refl, map}
+use Rattle.dd_meta.specs.Entries.{Entry}
 use Rattle.dd_meta.specs.Walks.{dirty_of_rows}
 use Rattle.dd_meta.proofs.Emptying.{nothing_dirty}
 use Rattle.dd_meta.proofs.Filled.{fill_step, drop_all}

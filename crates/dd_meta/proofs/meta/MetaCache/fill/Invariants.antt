@@ -1,4 +1,4 @@
-use Rattle.std.proofs.Common.{◌≡◌, length, drop}
+use Rattle.std.proofs.Common.{◌≡◌, drop}
 use Rattle.dd_meta.specs.Entries.{rows_of}
 use Rattle.dd_meta.specs.Keeping.{IsMeta}
 use Rattle.dd_meta.specs.Walks.{dirty_of_rows}

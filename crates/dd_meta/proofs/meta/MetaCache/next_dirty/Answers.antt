@@ -3,7 +3,7 @@ use Rattle.std.specs.Prelude.{option_map}
 use Rattle.dd_lists.specs.Lists.{is_in}
 use Rattle.dd_lists.proofs.Members.{listed_from}
 use Rattle.dd_meta.specs.Entries.{Meta}
-use Rattle.dd_meta.specs.Matching.{address_of, shown}
+use Rattle.dd_meta.specs.Matching.{address_of}
 use Rattle.dd_meta.specs.Walks.{next_of, IsWalked}
 use Rattle.dd_meta.proofs.Rows.{first_in}
 use Rattle.dd_meta.proofs.Walking.{waits_node, waits_next, waits_some}

@@ -1,7 +1,5 @@
 use Rattle.std.proofs.Common.{true}
-use Rattle.std.proofs.lemmas.Bool.{both_ways}
-use Rattle.dd_meta.proofs.Marking.{named_live, named_below, mark_matches, mark_shown}
-use Rattle.dd_meta.proofs.Writing.{live_within}
+use Rattle.dd_meta.proofs.Marking.{named_live, mark_matches, mark_shown}
 use Rattle.dd_meta.proofs.Facts.{meta_kept}
 use Rattle.dd_meta.proofs.meta.MetaCache.set_dirty.Goals as goal
 
