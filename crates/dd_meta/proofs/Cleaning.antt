@@ -1,10 +1,10 @@
 -- An address made clean, said of rows and of addresses.
 use Rattle.std.proofs.Common.{◌≡◌, ℕ, ◌==◌, not, Bool, true, false, List, [], ◌∷◌, map, refl, sym, ◌∙◌, ap, subst, Option, Some, None, cond, is_some}
-use Rattle.std.specs.Prelude.{option_and_then, unwrap_or}
+use Rattle.std.specs.Prelude.{unwrap_or}
 use Rattle.std.specs.List.{AllByRecursion, IsDistinct}
 use Rattle.std.proofs.lemmas.Bool.{eqb-true, both_ways}
 use Rattle.dd_record.specs.declared.row.ARow.{ARow}
-use Rattle.dd_record.specs.Table.{a_row, is_dirty, is_dirty_at}
+use Rattle.dd_record.specs.Table.{a_row}
 use Rattle.dd_record.specs.Replay.{cleaned}
 use Rattle.dd_lists.specs.Lists.{without}
 use Rattle.dd_meta.specs.Entries.{Meta, Writes, blank, rows_of, row_of, row_named, owed_to}
@@ -61,7 +61,3 @@ module _ (old new : Meta) (k : IsMeta old) (address node : ℕ) (has : is_some (
 
   pub clean_owed : (slot : ℕ) → owed_to slot new ≡ but address (owed_to slot old)
   clean_owed slot = w.owed slot ∙ ap (λ a. without a (owed_to slot old)) own ∙ without_but address (owed_to slot old)
-
--- an address without a node isn't dirty
-pub no_node : (old : Meta) (address : ℕ) (o : Option ℕ) → option_and_then (λ node. row_of node old) o ≡ a_row address (rows_of old) → o ≡ None → is_dirty_at address (rows_of old) ≡ true → ⊥
-no_node old address o row none dirty = both_ways _ (sym (ap is_dirty (sym (ap (option_and_then (λ node. row_of node old)) none) ∙ row))) dirty

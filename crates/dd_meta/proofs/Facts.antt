@@ -66,9 +66,6 @@ back_apart (x ∷ xs) d =
     subst (λ (l : List ℕ). IsDistinct (λ a b. a == b) l) (sym (rev_cons x xs)) (last_apart x (reverse xs) (in_reverse x xs ∙ head_out x xs d) (back_apart xs (rest_distinct x xs d)))
 
 module _ {acap slots : ℕ} {nodes : Nodes ARow} {index : Index} (k : Matches acap slots nodes index) where
-  R : List ARow
-  R = map (row_at nodes) (listed nodes)
-
   pub rows_are : rows_of (shown acap slots nodes) ≡ map (row_at nodes) (listed nodes)
   rows_are = map_map (entry_of nodes) (λ (e : Entry). e.row) (listed nodes)
 

@@ -123,9 +123,6 @@ module _ {acap slots : ℕ} {nodes : Nodes ARow} {index : Index} (k : Matches ac
   live : is_live node nodes ≡ true
   live = named_live k now is node (brought before now address node b)
 
-  old : ARow
-  old = row_at nodes node
-
   value : value_at node nodes ≡ Some (row_at nodes node)
   value = some_is (value_at node nodes) live
 
@@ -146,9 +143,6 @@ module _ {acap slots : ℕ} {nodes : Nodes ARow} {index : Index} (k : Matches ac
       subst (λ (n : Nodes ARow). Writes now (shown acap slots n) node row) (sym after)
       (subst (λ (m : Meta). Writes m (shown acap slots (with_row slots node row nodes)) node row) is
       (written_shown k node live (row_at nodes node) row value keeps_address linked low))
-
-  others : List Entry
-  others = filter (λ (e : Entry). not (e.row.address == address)) before.entries
 
   -- no other entry has the node
   alone : (xs : List ℕ) → IsDistinct (λ x y. x == y) xs → map (entry_of nodes) xs ≡ record { node = node; row = b.row } ∷ filter (λ (e : Entry). not (e.row.address == address)) before.entries

@@ -14,7 +14,7 @@ use Rattle.dd_lists.specs.Nodes.{Nodes, value_at, is_live, node_count}
 use Rattle.dd_lists.proofs.Members.{in_cons, in_here, in_later, distinct_none}
 use Rattle.dd_lists.proofs.Keys.{first_in_list}
 use Rattle.dd_index.specs.Index.{Index, nodes_of}
-use Rattle.dd_meta.specs.Entries.{Entry, blank, rows_of, node_of, row_of, is_listed_address, last_address}
+use Rattle.dd_meta.specs.Entries.{Entry, blank, rows_of, node_of, row_of, is_listed_address}
 use Rattle.dd_meta.proofs.Numbers.{map_map}
 use Rattle.dd_meta.specs.Matching.{row_at, address_of, entry_of, listed, waiting, shown, Matches}
 
@@ -169,19 +169,6 @@ module _ {acap slots : ℕ} {nodes : Nodes ARow} {index : Index} (k : Matches ac
   found_some address n h = ap is_some (row_is n ∙ ap (option_map (row_at nodes)) (find_itself n (listed nodes) (found_in address n h).0))
 
   -- the addresses at the ends
-  pub last_is : option_map (λ n. (row_at nodes n).address) (slice_get (listed nodes) (length (listed nodes) - 1)) ≡ last_address (shown acap slots nodes)
-  last_is =
-      sym (ap (option_map (λ (e : Entry). e.row.address)) (slice_get-map entry (listed nodes) (length (map entry (listed nodes)) - 1)
-      ∙ ap (λ l. option_map entry (slice_get (listed nodes) (l - 1))) (length-map (listed nodes) entry))
-      ∙ same (slice_get (listed nodes) (length (listed nodes) - 1)))
-    where
-      entry : ℕ → Entry
-      entry n = record { node = n; row = row_at nodes n }
-
-      same : (o : Option ℕ) → option_map (λ (e : Entry). e.row.address) (option_map entry o) ≡ option_map (λ n. (row_at nodes n).address) o
-      same None = refl
-      same (Some n) = refl
-
   pub first_is : option_map (row_at nodes) (slice_get (listed nodes) 0) ≡ (slice_get (rows_of (shown acap slots nodes)) 0)
   first_is = by_list (listed nodes)
     where

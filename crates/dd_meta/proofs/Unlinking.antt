@@ -42,9 +42,6 @@ pub record Unlinking (slot slots : ℕ) (old new : Nodes ARow) : Type 0 where
   pub one : length new.waiting ≡ 1
   pub two : length new.referrers ≡ slots + slots
 
-pub unlink_start : (slot slots : ℕ) (nodes : Nodes ARow) → length nodes.waiting ≡ 1 → length nodes.referrers ≡ slots + slots → Unlinking slot slots nodes nodes
-unlink_start slot slots nodes one two = record { all = λ acap index k clean. record { matches = k; clean = clean; entries = refl; dirty = refl; owed = refl }; one = one; two = two }
-
 abbrev pub lost : ARow → ARow
 lost row = record { address = row.address; link = Lost; dirty = row.dirty; fp = row.fp }
 

@@ -32,9 +32,6 @@ module _ {acap slots : ℕ} {nodes : Nodes ARow} {index : Index} (k : Matches ac
   find_live address None is now same = tt
   find_live address (Some n) is now same = sym (ap (λ (m : Meta). is_some (row_of n m)) same) ∙ found_some k address n (sym is)
 
-  f : ℕ → ℕ
-  f = address_of nodes
-
   -- listed nodes are told apart by their addresses
   node_apart : (node m : ℕ) → is_in node (listed nodes) ≡ true → is_in m (listed nodes) ≡ true → (address_of nodes m == address_of nodes node) ≡ (node == m)
   node_apart node m here there =

@@ -1,5 +1,5 @@
 // Nodes with a row each: where they stand among the referrers and those that wait.
-ghost use Rattle.std.specs.Prelude.{◌≡◌, ℕ, ◌+◌, ◌<◌, ◌^◌, Some, None, true, false, length, option_map, is_some, slice_get, IfSome};
+ghost use Rattle.std.specs.Prelude.{◌≡◌, ℕ, ◌+◌, ◌<◌, ◌^◌, true, length, option_map, is_some, slice_get, IfSome};
 ghost use Rattle.dd_lists.specs.Lists.{is_in, is_listed, list_at, taken_out};
 ghost use Rattle.dd_lists.specs.Nodes.{is_live};
 ghost use Rattle.dd_meta.specs.Matching.{address_of as address_at, IsBelow, home_of, referring_by, waiting_by, with_row, Unlinks, row_at, passing};

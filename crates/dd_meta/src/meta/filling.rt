@@ -1,5 +1,5 @@
 // Taking all addresses away, and taking rows in.
-ghost use Rattle.std.specs.Prelude.{◌≡◌, ◌==◌, ℕ, ◌≤◌, ◌-◌, [], true, false, replicate, length, is_some, option_map, slice_get, IfSome};
+ghost use Rattle.std.specs.Prelude.{◌≡◌, ◌==◌, ◌≤◌, ◌-◌, [], true, replicate, length, is_some, option_map, slice_get, IfSome};
 ghost use Rattle.std.specs.List.{AllByRecursion, IsDistinct};
 ghost use Rattle.dd_record.specs.Table.{IsDirtyLinked};
 ghost use Rattle.dd_meta.specs.Entries.{rows_of, row_of};
