@@ -1,0 +1,12 @@
+use Rattle.std.proofs.Common.{subst}
+use Rattle.dd_meta.specs.Entries.{Meta}
+use Rattle.dd_meta.specs.Keeping.{IsMeta}
+use Rattle.dd_meta.proofs.Emptying.{live_named}
+use Rattle.dd_meta.proofs.Facts.{meta_kept}
+use Rattle.dd_meta.proofs.meta.MetaCache.last.Goals as goal
+
+pub returns-clause-live : goal.returns-clause-live
+returns-clause-live c = live_named c.self.invariant c.args.self.now c.self.view_is c.back.result c.back.ensures.live
+
+pub returns-clause-keeps : goal.returns-clause-keeps
+returns-clause-keeps c = subst (λ (m : Meta). IsMeta m) c.self.view_is (meta_kept c.self.invariant)
