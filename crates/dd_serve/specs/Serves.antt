@@ -7,7 +7,10 @@ use Rattle.dd_rig.specs.declared.tallies.Counts.{Counts}
 use Rattle.dd_rig.specs.Clock.{Clock, Elapses}
 use Rattle.dd_rig.specs.Counts.{IsQuiet, IsStill, Makes, up_to}
 use Rattle.dd_rig.specs.World.{World, Outcome, MayLeave, shown}
+use Rattle.dd_model.specs.Alignment.{Aligned}
 use Rattle.dd_model.specs.State.{Sizes}
+use Rattle.dd_script.specs.Script.{commands_of, lines_of}
+use Rattle.dd_serve.specs.Together.{StatsTellNone}
 use Rattle.dd_recover.specs.Opening.{IsFirstFault}
 use Rattle.dd_recover.specs.declared.opening_fault.OpenFault.{OpenFault}
 use Rattle.dd_script.specs.Output.{dialect_of}
@@ -26,6 +29,10 @@ pub record KeepsPromise (print : List ℕ → Fp) (script : List ℕ) (old new :
 pub record ServesScript (print : List ℕ → Fp) (status : ℕ) (tells script_tells same_source : Type 0) (size : Dev → ℕ) (script rest : List ℕ) (takes_before takes_after : ℕ) (before after : Counts) (old new : World) : Type 0 where
   -- its lines answer the commands, the status says how it ended, and the devices were called no more than the lines tell
   pub says : tells → script_tells → (from : Begins print old) → Serves print (sizes_from from) from.start script 1 status old new before after
+  -- where both lists go together at the start each whole `stat` line tells that there are no orphans of one kind, up to the first
+  -- answered write that changes the content of a listed address
+  pub together : (t : tells) (u : script_tells) (from : Begins print old) → Aligned (sizes_from from).bcap from.start
+      → StatsTellNone (sizes_from from) from.start (commands_of (dialect_of (sizes_from from)) script) (lines_of (says t u from).output).whole
   -- where no call fails and the script is bounded, it is served, or there is no memory
   pub ends_well : tells → script_tells → (from : Begins print old) → IsQuiet before after → IsStill takes_before takes_after → IsBounded (sizes_from from) script → (status ≡ 0) ⊎ (status ≡ 4)
   -- which count rose
