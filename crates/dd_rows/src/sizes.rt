@@ -156,3 +156,29 @@ fn a_failed_sync_of_the_gate_stops_the_run(rt: HostRuntime) -> Result<(), Stop> 
     assert_eq!(rt; again.left.out.as_slice(), want.as_slice());
     Ok(())
 }
+
+// The opening syncs the flash first, and stops there.
+#[test]
+fn both_first_syncs_fail(rt: HostRuntime) -> Result<(), Stop> {
+    let alloc = rt.alloc();
+    let flash = formatted(alloc)?;
+    let disk = worked_disk();
+    let fails = [
+        Fail {
+            call: Call::Sync(Dev::Flash),
+            number: 1,
+        },
+        Fail {
+            call: Call::Sync(Dev::Disk),
+            number: 1,
+        },
+    ];
+    let failing = Setting {
+        fails: &fails,
+        ..setting(&SERVE, &flash, &disk, b"r 0\n")
+    };
+    let ran = run(alloc, &failing)?;
+    assert_eq!(rt; ran.left.out.as_slice(), b"stopped flash\n".as_slice());
+    assert_eq!(rt; ran.status, 7);
+    Ok(())
+}

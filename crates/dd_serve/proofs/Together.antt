@@ -1,5 +1,5 @@
 -- Where both lists go together a line that tells the orphans tells none of one kind.
-use Rattle.std.proofs.Common.{◌≡◌, ◌⊎◌, inl, inr, ℕ, ◌<◌, Bool, true, false, cond, List, [], ◌∷◌, length, refl, sym, ◌∙◌, ap, subst, arith}
+use Rattle.std.proofs.Common.{◌≡◌, inl, inr, ℕ, ◌<◌, Bool, true, false, cond, List, [], ◌∷◌, length, refl, sym, ◌∙◌, ap, subst, arith}
 use Rattle.std.specs.Prelude.{Option, ◌&&◌}
 use Rattle.std.specs.List.{AllByRecursion}
 use Rattle.dd_block.specs.declared.print.Fp.{Fp}
@@ -18,9 +18,8 @@ use Rattle.dd_script.specs.declared.line.BadKind.{BadKind}
 use Rattle.dd_script.specs.declared.line.BadKind.TheVariants as bad_is
 use Rattle.dd_script.specs.declared.reply.Stop.{Stop}
 use Rattle.dd_script.specs.declared.reply.Stop.TheVariants as stop
-use Rattle.dd_script.specs.Answers.{AnswersOne, MayFault, Tell, answered_one, is_answer}
+use Rattle.dd_script.specs.Answers.{AnswersOne, Tell, answered_one, is_answer}
 use Rattle.dd_script.specs.Command.{Command, read, write, flush, clean, tick, lists, stat, quit, bad, after_all}
-use Rattle.dd_script.specs.Output.{reply_line}
 use Rattle.dd_script.specs.Text.{bad_text, fault_text, read_text, stop_text, write_text}
 use Rattle.dd_serve.specs.Together.{StatsTellNone, TellsNone, is_stat, rewrites}
 use Rattle.dd_serve.proofs.Ranges.{InRange}

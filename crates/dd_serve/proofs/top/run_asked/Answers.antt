@@ -40,8 +40,7 @@ returns-in-Replay-clause-shown g c = λ t.
     let plan = c.in-Replay.plan in
     let is : IsPlan plan = subst HasRanges c.in-Replay.is c.requires in
     let long = (g.met.R.Rig.shows_image c.args.rig.now Disk t).same_length ∙ g.met.R.Rig.has_size c.args.rig.now Disk t in
-    subst (λ (asked : Asked). Shows printed asked c.run_replay.result g.S.Source.tells size script before after old new) (sym c.in-Replay.is)
-    (
+    subst (λ (asked : Asked). Shows printed asked c.run_replay.result g.S.Source.tells size script before after old new) (sym c.in-Replay.is) (
       c.run_replay.ensures.others t,
       c.run_replay.ensures.served t,
       λ u first.
