@@ -11,7 +11,7 @@ use Rattle.dd_record.specs.Replay.{Touch, a_moved, b_moved, cut_block, cut_addre
 use Rattle.dd_model.proofs.Filters.{all_both, all_true, all_filter, all_take, all_map, all_get, all_passing}
 use Rattle.dd_model.proofs.Answering.{not_true, and_second, or_none, and_true, number_turned}
 
-none_any : {X : Type 0} (p : X → Bool) (xs : List X) → list_any p xs ≡ false → AllByRecursion (λ x. p x ≡ false) xs
+pub none_any : {X : Type 0} (p : X → Bool) (xs : List X) → list_any p xs ≡ false → AllByRecursion (λ x. p x ≡ false) xs
 none_any p [] h = tt
 none_any p (x ∷ xs) h = ((or_none (p x) (list_any p xs) h).0, none_any p xs (or_none (p x) (list_any p xs) h).1)
 
@@ -36,7 +36,7 @@ module _ (address : ℕ) (cut : BRow) where
       (none_any (λ row. is_slot cut.slot row.link && row.dirty && not (row.address == address)) a (not_true (list_any (λ row. is_slot cut.slot row.link && row.dirty && not (row.address == address)) a) free)))
 
 -- what falls off isn't the row in front
-cut_apart : (row : BRow) (b : List BRow) (bcap : ℕ) → 1 ≤ bcap → IfSome (slice_get (b_moved row b) bcap) (λ cut. (row.slot == cut.slot) ≡ false)
+pub cut_apart : (row : BRow) (b : List BRow) (bcap : ℕ) → 1 ≤ bcap → IfSome (slice_get (b_moved row b) bcap) (λ cut. (row.slot == cut.slot) ≡ false)
 cut_apart row b zero h = absurd (omega (arith, h))
 cut_apart row b (suc n) h =
     all_get (λ cut. (row.slot == cut.slot) ≡ false) n (filter (λ other. not (other.slot == row.slot)) b)

@@ -27,13 +27,13 @@ behind_front (suc n) row rows some = ap (slice_get rows) (omega arith)
 
 module _ {Row : Type 0} (key : Row → ℕ) (cap : ℕ) (some : 1 ≤ cap) (k : ℕ) (row : Row) (rows : List Row) (few : length rows ≤ cap) where
   -- nothing falls off where the key is listed
-  listed_stays : is_some (find (λ r. key r == k) rows) ≡ true → slice_get (row ∷ filter (λ r. not (key r == k)) rows) cap ≡ None
+  pub listed_stays : is_some (find (λ r. key r == k) rows) ≡ true → slice_get (row ∷ filter (λ r. not (key r == k)) rows) cap ≡ None
   listed_stays is =
       behind_front cap row (filter (λ r. not (key r == k)) rows) some
       ∙ slice_get_past (filter (λ r. not (key r == k)) rows) (cap - 1) (omega (arith, filter_less key k rows is))
 
   -- else the last one where the list is full
-  last_falls : find (λ r. key r == k) rows ≡ None → slice_get (row ∷ filter (λ r. not (key r == k)) rows) cap ≡ last_of_full cap rows
+  pub last_falls : find (λ r. key r == k) rows ≡ None → slice_get (row ∷ filter (λ r. not (key r == k)) rows) cap ≡ last_of_full cap rows
   last_falls none =
       behind_front cap row (filter (λ r. not (key r == k)) rows) some
       ∙ ap (λ rs. slice_get rs (cap - 1)) (filter_none key k rows none)

@@ -6,7 +6,7 @@ ghost use Rattle.dd_record.specs.Replay.{after_rec};
 ghost use Rattle.dd_model.specs.Listing.{IsGiven, want_of, touch_by, may_refer};
 ghost use Rattle.dd_model.specs.Applying.{is_dirty_out, is_referred, by_touch, applied, IsApplied, IsSlotBelow, SameLimits};
 
-use crate::{Block, Cut, Lists, Want};
+use crate::{Block, Cut, Lists, Want, is_link};
 use dd_record::{BRow, Link, Rec};
 
 /// Whether a reference of the address with that block lets nothing dirty fall off: `touch` may be
@@ -145,15 +145,6 @@ fn may_link<L: Lists>(lists: &L, address: u32, dirty: bool) -> bool
     ensures { result ≡ (dirty || not (is_link (link_at address (L.listing lists.now).table.a))) }
 {
     dirty || !is_link(link_at(lists, address))
-}
-
-fn is_link(link: Link) -> bool
-    ensures { result ≡ is_link link }
-{
-    match link {
-        Link::Lost => false,
-        Link::Slot(_) | Link::Zero => true,
-    }
 }
 
 fn is_slot_listed<L: Lists>(lists: &L, slot: u32) -> bool

@@ -1,10 +1,10 @@
 // Addresses without their block, and blocks without an address.
-ghost use Rattle.std.specs.Prelude.{◌≡◌, ◌<◌, ◌^◌, not, length, count_by, if◌then◌else◌};
+ghost use Rattle.std.specs.Prelude.{◌≡◌, ◌<◌, ◌^◌, not, length, count_by};
 ghost use Rattle.dd_record.specs.Table.{is_link};
 ghost use Rattle.dd_model.specs.Orphans.{is_linked_to};
 
-use crate::vectors::is_slot;
-use dd_record::{ARow, BRow, Link};
+use crate::vectors::{is_link, is_slot};
+use dd_record::{ARow, BRow};
 
 /// How many listed addresses aren't linked, and how many listed blocks no address is linked to.
 #[derive(Clone, Copy, Debug, PartialEq, Eq)]
@@ -20,7 +20,7 @@ pub(crate) fn count_unlinked(rows: &[ARow]) -> u32
 {
     let mut count = 0;
     for row in rows {
-        count += one_if(!is_link(row.link));
+        count += u32::from(!is_link(row.link));
     }
     count
 }
@@ -32,7 +32,7 @@ pub(crate) fn count_unreferred(blocks: &[BRow], rows: &[ARow]) -> u32
 {
     let mut count = 0;
     for block in blocks {
-        count += one_if(!is_linked_to(rows, block.slot));
+        count += u32::from(!is_linked_to(rows, block.slot));
     }
     count
 }
@@ -47,20 +47,4 @@ fn is_linked_to(rows: &[ARow], slot: u32) -> bool
         }
     }
     false
-}
-
-fn is_link(link: Link) -> bool
-    ensures { result ≡ is_link link }
-{
-    match link {
-        Link::Lost => false,
-        Link::Slot(_) => true,
-        Link::Zero => true,
-    }
-}
-
-fn one_if(counted: bool) -> u32
-    ensures { result ≡ (if counted then 1 else 0) }
-{
-    if counted { 1 } else { 0 }
 }

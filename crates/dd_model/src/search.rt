@@ -46,8 +46,9 @@ pub(crate) fn confirm<R: Rig>(
     Ok(None)
 }
 
-// Whether a row has this fingerprint and these bytes.
-fn is_this<R: Rig>(
+/// Whether a row has this fingerprint and these bytes. Where it has the fingerprint its block is read,
+/// into `scratch`.
+pub fn is_this<R: Rig>(
     rig: &mut R,
     slots: &Slots,
     row: BRow,

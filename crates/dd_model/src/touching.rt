@@ -22,8 +22,8 @@ pub(crate) fn row_of(rows: &[BRow], block: Block) -> Option<BRow>
     }
 }
 
-// The link to what is referenced.
-fn link_to(block: Option<BRow>) -> Link
+/// The link to the block of a reference; none is the block of zeros.
+pub fn link_to(block: Option<BRow>) -> Link
     ensures { result ≡ link_to block }
 {
     match block {
@@ -32,8 +32,8 @@ fn link_to(block: Option<BRow>) -> Link
     }
 }
 
-// The fingerprint beside that link.
-fn print_beside(block: Option<BRow>) -> Fp
+/// The fingerprint beside that link; zeros beside the block of zeros.
+pub fn print_beside(block: Option<BRow>) -> Fp
     ensures { result ≡ print_beside block }
 {
     match block {

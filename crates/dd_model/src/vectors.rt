@@ -1,6 +1,6 @@
 // Vectors of rows, the most recently referenced one first.
 ghost use Rattle.std.specs.Prelude.{◌≡◌, ◌+◌, ◌<◌, ◌≤◌, ◌==◌, not, ◌∷◌, ◌++◌, [], map, take, filter, find, drop, length, slice_get, option_map, vec_len, vec_capacity};
-ghost use Rattle.dd_record.specs.Table.{a_row, b_row, is_slot, is_dirty_at};
+ghost use Rattle.dd_record.specs.Table.{a_row, b_row, is_link, is_slot, is_dirty_at};
 ghost use Rattle.dd_record.specs.Listed.{row_behind};
 ghost use Rattle.dd_record.specs.Replay.{unlinked_from, cleaned, cleaned_row};
 ghost use Rattle.dd_model.specs.Listing.{refers, last_of_full, dirty_of_rows};
@@ -40,6 +40,16 @@ pub(crate) fn find_referrer(rows: &[ARow], slot: u32, skip: u32) -> Option<u32>
         }
     }
     None
+}
+
+/// Whether a link leads to a block, be it the block of zeros.
+pub fn is_link(link: Link) -> bool
+    ensures { result ≡ is_link link }
+{
+    match link {
+        Link::Lost => false,
+        Link::Slot(_) | Link::Zero => true,
+    }
 }
 
 // Whether a link is to this slot.

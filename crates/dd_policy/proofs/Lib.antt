@@ -1,0 +1,7 @@
+mod Coupled
+mod Marking
+mod Roomy
+mod Steps
+mod Taken
+mod Touched
+mod Victims
