@@ -252,7 +252,7 @@ module _ (line : List ℕ) (before between after : Counts) (falls : NeverFalls b
   ends_since output (front, whole, inl is) = (front, whole, inl is)
   ends_since output (front, whole, inr cut) = (front, whole, inr (omega (arith, cut.0, falls.emits), cut.1, cut.2))
 
-  says_since : (old middle new : World) → middle.said ≡ old.said → SaysAlone line between after middle new → SaysAlone line before after old new
+  pub says_since : (old middle new : World) → middle.said ≡ old.said → SaysAlone line between after middle new → SaysAlone line before after old new
   says_since old middle new same (inl is) = inl (is ∙ ap (λ (l : List ℕ). l ++ ended line) same)
   says_since old middle new same (inr cut) = inr (omega (arith, cut.0, falls.emits), cut.1, cut.2 ∙ ap (λ (l : List ℕ). l ++ take cut.1 (ended line)) same)
 

@@ -13,4 +13,4 @@ mod serving;
 
 pub use cache::StoreCache;
 pub use listing::say_rows;
-pub use opening::serve;
+pub use opening::{ending_of, serve};

@@ -102,8 +102,8 @@ fn end_store<F: Fingerprint, L: Lists, R: Rig, S: Source>(
     finish(rig, ending)
 }
 
-// How a run ends whose devices weren't opened.
-fn ending_of(fault: OpenFault) -> Ending
+/// How a run ends whose devices weren't opened.
+pub fn ending_of(fault: OpenFault) -> Ending
     ensures { result ≡ ending_of fault }
 {
     match fault {

@@ -9,7 +9,8 @@ use Rattle.dd_block.specs.Text.{block_text, text_or_zero, without_zeros}
 use Rattle.dd_model.specs.State.{Entry}
 use Rattle.dd_model.specs.declared.kind.Kind.{Kind}
 use Rattle.dd_model.specs.declared.kind.Kind.TheVariants.{Hit, Join, Miss, Dup, New}
-use Rattle.dd_script.specs.Text.{HasNoEnd, kind_word, out_text, drop_text, read_text, write_text, place_text, small_text, address_text, print_text, lists_text, stat_text}
+use Rattle.dd_script.specs.declared.reply.Sums.{Sums}
+use Rattle.dd_script.specs.Text.{HasNoEnd, kind_word, out_text, drop_text, read_text, write_text, place_text, small_text, address_text, print_text, lists_text, stat_text, counted_text, sum_text}
 
 pub both_no_end : (xs ys : List ℕ) → HasNoEnd xs → HasNoEnd ys → HasNoEnd (xs ++ ys)
 both_no_end [] ys h k = k
@@ -115,6 +116,22 @@ stat_no_end count addresses blocks =
     (both_no_end (codes "stat n " ++ decimal count ++ codes " addresses ") (decimal addresses)
     (both_no_end (codes "stat n " ++ decimal count) (codes " addresses ")
     (numbered_no_end (codes "stat n ") count (search rules)) (search rules)) (decimal_no_end addresses)) (search rules)) (decimal_no_end blocks)
+
+-- the counts of a large run
+pub sum_no_end : (sums : Sums) → HasNoEnd (sum_text sums)
+sum_no_end sums =
+    both_no_end (counted_text (codes "sum hit ") sums.hits ++ counted_text (codes " join ") sums.joins ++ counted_text (codes " miss ") sums.misses ++ counted_text (codes " dup ") sums.dups ++ counted_text (codes " new ") sums.news ++ counted_text (codes " out ") sums.outs) (counted_text (codes " drop ") sums.drops)
+    (both_no_end (counted_text (codes "sum hit ") sums.hits ++ counted_text (codes " join ") sums.joins ++ counted_text (codes " miss ") sums.misses ++ counted_text (codes " dup ") sums.dups ++ counted_text (codes " new ") sums.news) (counted_text (codes " out ") sums.outs)
+    (both_no_end (counted_text (codes "sum hit ") sums.hits ++ counted_text (codes " join ") sums.joins ++ counted_text (codes " miss ") sums.misses ++ counted_text (codes " dup ") sums.dups) (counted_text (codes " new ") sums.news)
+    (both_no_end (counted_text (codes "sum hit ") sums.hits ++ counted_text (codes " join ") sums.joins ++ counted_text (codes " miss ") sums.misses) (counted_text (codes " dup ") sums.dups)
+    (both_no_end (counted_text (codes "sum hit ") sums.hits ++ counted_text (codes " join ") sums.joins) (counted_text (codes " miss ") sums.misses)
+    (both_no_end (counted_text (codes "sum hit ") sums.hits) (counted_text (codes " join ") sums.joins)
+    (numbered_no_end (codes "sum hit ") sums.hits (search rules)) (numbered_no_end (codes " join ") sums.joins (search rules)))
+    (numbered_no_end (codes " miss ") sums.misses (search rules)))
+    (numbered_no_end (codes " dup ") sums.dups (search rules)))
+    (numbered_no_end (codes " new ") sums.news (search rules)))
+    (numbered_no_end (codes " out ") sums.outs (search rules)))
+    (numbered_no_end (codes " drop ") sums.drops (search rules))
 
 -- both lists
 pub lists_no_end : (entries : List Entry) (prints : List Fp) → HasNoEnd (lists_text entries prints)

@@ -15,7 +15,8 @@ use Rattle.dd_script.specs.declared.line.BadKind.TheVariants as bad_is
 use Rattle.dd_script.specs.declared.reply.Stop.{Stop}
 use Rattle.dd_script.specs.declared.reply.Stop.TheVariants as stop
 use Rattle.dd_script.specs.Line.{is_number}
-use Rattle.dd_script.specs.Text.{HasNoEnd, read_text, write_text, flushed_text, cleaned_text, ticked_text, lists_text, stat_text, bye_text, bad_text, fault_text, stop_text}
+use Rattle.dd_script.specs.declared.reply.Sums.{Sums}
+use Rattle.dd_script.specs.Text.{HasNoEnd, read_text, write_text, flushed_text, cleaned_text, ticked_text, lists_text, stat_text, sum_text, bye_text, bad_text, fault_text, stop_text}
 use Rattle.dd_script.specs.Command.{Command, read, write, after, after_all}
 use Rattle.dd_script.specs.Output.{reply_line}
 use Rattle.dd_script.specs.Answers.{is_answer, answered_one, first_some, acknowledged_by}
@@ -103,6 +104,9 @@ lists_acks entries prints = refl
 
 pub stat_acks : (count addresses blocks : ℕ) → acknowledged_by (stat_text count addresses blocks) ≡ None
 stat_acks count addresses blocks = refl
+
+pub sum_acks : (sums : Sums) → acknowledged_by (sum_text sums) ≡ None
+sum_acks sums = refl
 
 -- a line that acknowledges nothing
 pub no_acks : (line : List ℕ) (m : ℕ) → acknowledged_by line ≡ None → IfSome (acknowledged_by line) (λ n. n ≤ m)

@@ -21,6 +21,7 @@ use Rattle.dd_script.specs.declared.reply.Refusal.{Refusal}
 use Rattle.dd_script.specs.declared.reply.Refusal.TheVariants as refusal
 use Rattle.dd_script.specs.declared.reply.Reply.{Reply}
 use Rattle.dd_script.specs.declared.reply.Reply.TheVariants as reply
+use Rattle.dd_script.specs.declared.reply.Sums.{Sums}
 
 -- bytes that each line of output fits, its LF included
 abbrev pub reply_room : ℕ
@@ -83,6 +84,16 @@ lists_text entries prints = codes "A" ++ flat_map (λ entry. address_text entry.
 -- how many references there were, how many listed addresses are unlinked, and how many listed blocks no linked address has
 abbrev pub stat_text : (count addresses blocks : ℕ) → List ℕ
 stat_text count addresses blocks = codes "stat n " ++ decimal count ++ codes " addresses " ++ decimal addresses ++ codes " blocks " ++ decimal blocks
+
+-- a count behind its word
+abbrev pub counted_text : (words : List ℕ) → (count : ℕ) → List ℕ
+counted_text words count = words ++ decimal count
+
+-- how many references there were of each kind, and how many addresses and blocks fell off
+abbrev pub sum_text : Sums → List ℕ
+sum_text sums =
+    counted_text (codes "sum hit ") sums.hits ++ counted_text (codes " join ") sums.joins ++ counted_text (codes " miss ") sums.misses ++ counted_text (codes " dup ") sums.dups
+    ++ counted_text (codes " new ") sums.news ++ counted_text (codes " out ") sums.outs ++ counted_text (codes " drop ") sums.drops
 
 abbrev pub bad_text : BadKind → List ℕ
 bad_text bad.Long = codes "bad long"
@@ -156,3 +167,4 @@ reply_text (reply.Bye count) = bye_text count
 reply_text (reply.Stopped why) = stop_text why
 reply_text (reply.Refused why) = refusal_text why
 reply_text reply.Formatted = codes "formatted"
+reply_text (reply.Sum sums) = sum_text sums

@@ -20,5 +20,5 @@ pub use line::{BadKind, Line, parse};
 pub use number::{number_below, number_of};
 pub use pieces::ScriptFault;
 pub use reader::Reader;
-pub use reply::{Refusal, Reply, Stop};
+pub use reply::{Refusal, Reply, Stop, Sums};
 pub use text::{REPLY_ROOM, list_a, list_b, reply_read, write_reply};

@@ -45,6 +45,19 @@ pub enum Refusal {
     Version1,
 }
 
+/// What the references of a large run came to: how many there were of each kind, and how many addresses
+/// and blocks fell off the lists.
+#[derive(Clone, Copy, Debug, PartialEq, Eq)]
+pub struct Sums {
+    pub hits: u32,
+    pub joins: u32,
+    pub misses: u32,
+    pub dups: u32,
+    pub news: u32,
+    pub outs: u32,
+    pub drops: u32,
+}
+
 /// A line of output.
 #[derive(Clone, Copy, Debug, PartialEq, Eq)]
 pub enum Reply {
@@ -68,4 +81,6 @@ pub enum Reply {
     Refused(Refusal),
     /// The flash was formatted.
     Formatted,
+    /// What a large run came to.
+    Sum(Sums),
 }

@@ -2,12 +2,12 @@
 ghost use Rattle.std.specs.Prelude.{◌≡◌, ◌+◌, ◌*◌, ◌≤◌, ◌++◌, [], length, take, codes, decimal, option_map, if◌then◌else◌};
 ghost use Rattle.dd_block.specs.Text.{block_text};
 ghost use Rattle.dd_script.specs.declared.reply.Reply.TheVariants.{Bad, Fault, Stopped};
-ghost use Rattle.dd_script.specs.Text.{reply_room, HasNoEnd, ended, kind_word, out_text, drop_text, address_text, print_text, stat_text, read_text, write_text, reply_text};
+ghost use Rattle.dd_script.specs.Text.{reply_room, HasNoEnd, ended, kind_word, out_text, drop_text, address_text, print_text, stat_text, sum_text, read_text, write_text, reply_text};
 ghost use Rattle.hex.specs.Hex.{encode_lower};
 ghost use Rattle.dd_record.specs.Table.{is_link};
 
 use crate::refusing::write_refusal;
-use crate::{BadKind, Reply, Stop};
+use crate::{BadKind, Reply, Stop, Sums};
 use dd_block::{Fp, write_block_text};
 use dd_model::{Cut, Done, Kind, Orphans};
 use dd_record::{ARow, BRow, Link};
@@ -52,6 +52,7 @@ pub fn write_reply(reply: Reply, into: &mut [u8]) -> usize
         Reply::Stopped(why) => put(into, 0, stopped_line(why)),
         Reply::Refused(why) => write_refusal(why, into),
         Reply::Formatted => put(into, 0, b"formatted\n"),
+        Reply::Sum(sums) => write_sum(sums, into),
     }
 }
 
@@ -78,6 +79,22 @@ fn write_stat(count: u64, orphans: Orphans, into: &mut [u8]) -> usize
     let addresses = put_counted(into, number, b" addresses ", orphans.a);
     let blocks = put_counted(into, addresses, b" blocks ", orphans.b);
     put(into, blocks, b"\n")
+}
+
+fn write_sum(sums: Sums, into: &mut [u8]) -> usize
+    requires { length into.old ≡ reply_room }
+    ensures text { take result into.new ≡ ended (sum_text sums) }
+    ensures line { HasNoEnd (sum_text sums) }
+    ensures fits { result ≤ reply_room }
+{
+    let hits = put_counted(into, 0, b"sum hit ", sums.hits);
+    let joins = put_counted(into, hits, b" join ", sums.joins);
+    let misses = put_counted(into, joins, b" miss ", sums.misses);
+    let dups = put_counted(into, misses, b" dup ", sums.dups);
+    let news = put_counted(into, dups, b" new ", sums.news);
+    let outs = put_counted(into, news, b" out ", sums.outs);
+    let drops = put_counted(into, outs, b" drop ", sums.drops);
+    put(into, drops, b"\n")
 }
 
 // Words and a count behind the first bytes.

@@ -1,0 +1,45 @@
+// The last lines of a large run.
+ghost use Rattle.std.specs.Prelude.{◌≡◌, OnOk, OnErr};
+ghost use Rattle.dd_rig.specs.Clock.{Elapses};
+ghost use Rattle.dd_rig.specs.Counts.{Frame, Rose};
+ghost use Rattle.dd_rig.specs.World.{IsOwn, SaysSome, WithinEmit};
+ghost use Rattle.dd_rig.specs.World as world;
+ghost use Rattle.dd_script.specs.Text.{ended, reply_text};
+ghost use Rattle.dd_loop.specs.Saying.{IsIdle};
+ghost use Rattle.dd_gen.specs.Large.{both_lines, SaysFront, SaysEnd, IsHeard};
+
+use dd_loop::{Ending, Halt, say};
+use dd_rig::Rig;
+use dd_script::{REPLY_ROOM, Reply, Sums, write_reply};
+
+// Says one line.
+fn say_reply<R: Rig>(rig: &mut R, reply: Reply) -> Result<(), Halt>
+    ensures said { R.tells → OnOk result (R.world rig.new ≡ world.say (ended (reply_text reply)) (R.world rig.old)) }
+    ensures part { R.tells → SaysSome (ended (reply_text reply)) (R.world rig.old) (R.world rig.new) }
+    ensures time { R.tells → Elapses (R.clock rig.old) (R.clock rig.new) (WithinEmit (ended (reply_text reply)) (R.world rig.old)) }
+    ensures idle { IsIdle (R.counts rig.old) (R.counts rig.new) }
+    ensures rose { OnErr result (Rose (R.counts rig.old).failed_emits (R.counts rig.new).failed_emits) }
+    ensures frame { Frame (R.counts rig.old) (R.counts rig.new) (R.device_size rig.old) (R.device_size rig.new) }
+{
+    let mut text = [0u8; REPLY_ROOM];
+    let size = write_reply(reply, &mut text);
+    say(rig, &text[..size])
+}
+
+// Says what the references came to, and how many there were in all.
+#[tactic(auto, using(crate::proofs::Keeps::step_steps))]
+pub(crate) fn say_end<R: Rig>(rig: &mut R, sums: Sums, count: u64) -> Ending
+    ensures crash { R.tells → Elapses (R.clock rig.old) (R.clock rig.new) (λ o. IsOwn (R.world rig.old) o.flash o.disk × SaysFront (both_lines sums count) (R.world rig.old).said o.out) }
+    ensures said { R.tells → SaysEnd result (both_lines sums count) (R.world rig.old).said (R.world rig.new).said }
+    ensures devices { R.tells → ((R.world rig.new).flash ≡ (R.world rig.old).flash) × ((R.world rig.new).disk ≡ (R.world rig.old).disk) }
+    ensures heard { IsHeard result (R.counts rig.old) (R.counts rig.new) }
+    ensures frame { Frame (R.counts rig.old) (R.counts rig.new) (R.device_size rig.old) (R.device_size rig.new) }
+{
+    match say_reply(rig, Reply::Sum(sums)) {
+        Err(_) => Ending::Unheard,
+        Ok(()) => match say_reply(rig, Reply::Bye(count)) {
+            Err(_) => Ending::Unheard,
+            Ok(()) => Ending::Served { faulted: false },
+        },
+    }
+}
