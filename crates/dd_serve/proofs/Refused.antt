@@ -20,9 +20,8 @@ use Rattle.dd_script.specs.declared.reply.Stop.TheVariants as stop
 use Rattle.dd_script.specs.Text.{ended, stop_text}
 use Rattle.dd_loop.specs.Saying.{SaysAlone}
 use Rattle.dd_loop.specs.Ending.{SaysLast, ending_line, status_of}
-use Rattle.dd_serve.specs.Formats.{ending_of, FormatLeaves, Formats}
-use Rattle.dd_serve.specs.Refusing.{Refuses, StopsAtDevice}
-use Rattle.dd_serve.specs.declared.words.Asked.TheVariants.{Format}
+use Rattle.dd_serve.specs.Formats.{ending_of, FormatLeaves, FormatStops, Formats}
+use Rattle.dd_serve.specs.Refusing.{Refuses}
 
 -- a line is alone over a part of a run in front of which nothing was said
 pub says_sooner : (line : List ℕ) (a b d : Counts) (old middle new : World) → a.failed_emits ≤ b.failed_emits → middle.said ≡ old.said → SaysAlone line b d middle new → SaysAlone line a d old new
@@ -60,15 +59,15 @@ small_none false true x y v w e = absurd (cc)
 small_none false false x y v w e = refl
 
 -- the device whose call failed is the one that the line names
-pub device_fault : (why : FormatFault) (geo : Geometry) (Says : List ℕ → Type 0) (a d : Counts)
+pub device_fault : (why : FormatFault) (Says : List ℕ → Type 0) (a d : Counts)
     → (why ≡ fault.FlashRead → Rose a.flash.failed_reads d.flash.failed_reads) → (why ≡ fault.FlashWrite → Rose a.flash.failed_writes d.flash.failed_writes)
-    → (why ≡ fault.DiskWrite → Rose a.disk.failed_writes d.disk.failed_writes) → ((line : List ℕ) → ending_line (ending_of why) ≡ Some line → Says line) → status_of (ending_of why) ≡ 7 → StopsAtDevice (Format geo) Says a d
-device_fault (fault.FlashSmall need have) geo Says a d read write disk says e = absurd (omega (arith, e))
-device_fault (fault.DiskSmall need have) geo Says a d read write disk says e = absurd (omega (arith, e))
-device_fault fault.InUse geo Says a d read write disk says e = absurd (omega (arith, e))
-device_fault fault.FlashRead geo Says a d read write disk says e = inl (inl (read refl), says (stop_text stop.Flash) refl)
-device_fault fault.FlashWrite geo Says a d read write disk says e = inl (inr (write refl), says (stop_text stop.Flash) refl)
-device_fault fault.DiskWrite geo Says a d read write disk says e = inr (disk refl, says (stop_text stop.Disk) refl)
+    → (why ≡ fault.DiskWrite → Rose a.disk.failed_writes d.disk.failed_writes) → ((line : List ℕ) → ending_line (ending_of why) ≡ Some line → Says line) → status_of (ending_of why) ≡ 7 → FormatStops Says a d
+device_fault (fault.FlashSmall need have) Says a d read write disk says e = absurd (omega (arith, e))
+device_fault (fault.DiskSmall need have) Says a d read write disk says e = absurd (omega (arith, e))
+device_fault fault.InUse Says a d read write disk says e = absurd (omega (arith, e))
+device_fault fault.FlashRead Says a d read write disk says e = inl (inl (read refl), says (stop_text stop.Flash) refl)
+device_fault fault.FlashWrite Says a d read write disk says e = inl (inr (write refl), says (stop_text stop.Flash) refl)
+device_fault fault.DiskWrite Says a d read write disk says e = inr (disk refl, says (stop_text stop.Disk) refl)
 
 -- a crash within a format, or within its line
 pub format_leaves : (geo : Geometry) (old middle : World) (first second last : Clock) → ((print : List ℕ → Fp) → Elapses first second (λ o. IsUnusedOrFormatted print geo old o.flash o.disk))

@@ -1,9 +1,10 @@
 -- A format: what its status says, and what a crash may leave.
-use Rattle.std.specs.Prelude.{◌≡◌, ◌⊎◌, ◌++◌, ℕ, List}
+use Rattle.std.specs.Prelude.{◌≡◌, ◌⊎◌, ◌++◌, ℕ, false, List, ⊤}
 use Rattle.dd_block.specs.declared.print.Fp.{Fp}
 use Rattle.dd_block.specs.declared.geometry.Geometry.{Geometry}
 use Rattle.dd_rig.specs.declared.tallies.Counts.{Counts}
 use Rattle.dd_rig.specs.Clock.{Clock, Elapses}
+use Rattle.dd_rig.specs.Counts.{Rose}
 use Rattle.dd_rig.specs.Device.{IsImage}
 use Rattle.dd_rig.specs.World.{World, IsOwn}
 use Rattle.dd_recover.specs.Formatting.{IsFormatted, IsUnusedOrFormatted}
@@ -12,9 +13,9 @@ use Rattle.dd_recover.specs.declared.fault.FormatFault.TheVariants as fault
 use Rattle.dd_script.specs.declared.reply.Reply.TheVariants as reply
 use Rattle.dd_script.specs.declared.reply.Refusal.TheVariants as refusal
 use Rattle.dd_script.specs.declared.reply.Stop.TheVariants as stop
-use Rattle.dd_script.specs.Text.{ended, reply_text}
+use Rattle.dd_script.specs.Text.{ended, reply_text, stop_text}
 use Rattle.dd_loop.specs.declared.ending.Ending.{Ending}
-use Rattle.dd_loop.specs.declared.ending.Ending.TheVariants.{Refused, Stopped}
+use Rattle.dd_loop.specs.declared.ending.Ending.TheVariants.{Served, Refused, Stopped, Unheard}
 use Rattle.dd_loop.specs.Saying.{SaysAlone}
 
 -- how a format ends that failed
@@ -29,6 +30,22 @@ ending_of fault.DiskWrite = Stopped stop.Disk
 -- how a format may end
 abbrev pub IsFormatStatus : ℕ → Type 0
 IsFormatStatus status = (status ≡ 0) ⊎ (status ≡ 3) ⊎ (status ≡ 6) ⊎ (status ≡ 7)
+
+-- Why it ends so. Where a device fails the line names it, and no other line is said; it reads no script and needs no memory.
+abbrev pub FormatEndsFor : Ending → (Says : List ℕ → Type 0) → (before after : Counts) → Type 0
+FormatEndsFor (Served faulted) Says before after = faulted ≡ false
+FormatEndsFor (Refused why) Says before after = ⊤
+FormatEndsFor (Stopped stop.Flash) Says before after =
+    (Rose before.flash.failed_reads after.flash.failed_reads ⊎ Rose before.flash.failed_writes after.flash.failed_writes) × Says (stop_text stop.Flash)
+FormatEndsFor (Stopped stop.Disk) Says before after = Rose before.disk.failed_writes after.disk.failed_writes × Says (stop_text stop.Disk)
+FormatEndsFor (Stopped stop.Script) Says before after = ⊥
+FormatEndsFor (Stopped stop.Length) Says before after = ⊥
+FormatEndsFor (Stopped stop.Memory) Says before after = ⊥
+FormatEndsFor Unheard Says before after = Rose before.failed_emits after.failed_emits
+
+-- it stops at a device
+abbrev pub FormatStops : (Says : List ℕ → Type 0) → (before after : Counts) → Type 0
+FormatStops Says before after = FormatEndsFor (Stopped stop.Flash) Says before after ⊎ FormatEndsFor (Stopped stop.Disk) Says before after
 
 -- whatever a crash leaves now stands for the disk's array, empty lists and no references
 abbrev pub AreFormatted : Geometry → (old new : World) → Type 0

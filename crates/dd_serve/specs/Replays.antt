@@ -1,9 +1,9 @@
 -- A replay: its state at the start, its output, and what each status says.
-use Rattle.std.specs.Prelude.{◌≡◌, ◌≢◌, ◌≤◌, ◌<◌, ◌+◌, ◌/◌, ℕ, Bool, List, min, length, drop, [], ◌++◌}
+use Rattle.std.specs.Prelude.{◌≡◌, ◌≢◌, ◌⊎◌, ◌≤◌, ◌<◌, ◌+◌, ◌/◌, ℕ, Bool, List, min, length, drop, [], ◌++◌, ⊤}
 use Rattle.dd_block.specs.declared.print.Fp.{Fp}
 use Rattle.dd_rig.specs.declared.device.Dev.TheVariants as dev
 use Rattle.dd_rig.specs.declared.tallies.Counts.{Counts}
-use Rattle.dd_rig.specs.Counts.{IsStill, plus}
+use Rattle.dd_rig.specs.Counts.{IsStill, Makes, Rose, nothing, plus, up_to}
 use Rattle.dd_rig.specs.World.{World, shown}
 use Rattle.dd_model.specs.State.{Sizes, State, array_of, fresh}
 use Rattle.dd_script.specs.declared.reply.Stop.{Stop}
@@ -18,6 +18,8 @@ use Rattle.dd_serve.specs.declared.words.Plan.{Plan}
 use Rattle.dd_slots.specs.Slots.{AreNew}
 use Rattle.dd_model.specs.Listing.{empty_listing}
 use Rattle.dd_serve.specs.Scratch.{ScratchView}
+use Rattle.dd_loop.specs.declared.ending.Ending.{Ending}
+use Rattle.dd_loop.specs.declared.ending.Ending.TheVariants.{Served, Refused, Stopped, Unheard}
 use Rattle.dd_loop.specs.Ending.{stopped_status}
 use Rattle.dd_loop.specs.declared.halt.Halt.{Halt}
 use Rattle.dd_loop.specs.Answering.{Pays}
@@ -26,6 +28,26 @@ use Rattle.dd_loop.specs.Serving.{ServedAll, ServedUpTo}
 use Rattle.dd_serve.specs.Answering.{StaysBy}
 use Rattle.dd_script.specs.Counting.{loads_in}
 use Rattle.dd_serve.specs.Calls.{AsksForLines, unfinished}
+
+-- how a replay may end
+abbrev pub IsReplayStatus : ℕ → Type 0
+IsReplayStatus status = (status ≤ 8) × (status ≢ 2)
+
+-- it stops at the flash for a failed write, or for the look before all else, and then its line alone is said
+abbrev pub ReplayStops : (Says : List ℕ → Type 0) → (before after : Counts) → Type 0
+ReplayStops Says before after = Rose before.flash.failed_writes after.flash.failed_writes
+    ⊎ (Rose before.flash.failed_reads after.flash.failed_reads × Says (stop_text stop.Flash) × Makes (up_to 1 0 0) nothing before after)
+
+-- Why it ends so. It never stops at the disk, and that a script is too long is told by its bytes.
+abbrev pub ReplayEndsFor : Ending → (Says : List ℕ → Type 0) → (before after : Counts) → (takes_before takes_after : ℕ) → Type 0
+ReplayEndsFor (Served faulted) Says before after takes_before takes_after = ⊤
+ReplayEndsFor (Refused why) Says before after takes_before takes_after = ⊤
+ReplayEndsFor (Stopped stop.Flash) Says before after takes_before takes_after = ReplayStops Says before after
+ReplayEndsFor (Stopped stop.Disk) Says before after takes_before takes_after = ⊥
+ReplayEndsFor (Stopped stop.Script) Says before after takes_before takes_after = Rose takes_before takes_after
+ReplayEndsFor (Stopped stop.Length) Says before after takes_before takes_after = ⊤
+ReplayEndsFor (Stopped stop.Memory) Says before after takes_before takes_after = Says (stop_text stop.Memory)
+ReplayEndsFor Unheard Says before after takes_before takes_after = Rose before.failed_emits after.failed_emits
 
 -- no more blocks than these are numbered
 abbrev pub most_blocks : ℕ

@@ -9,8 +9,8 @@ ghost use Rattle.dd_journal.specs.Sitting.{regions_size};
 ghost use Rattle.dd_script.specs.declared.reply.Reply.TheVariants as reply;
 ghost use Rattle.dd_script.specs.Text.{ended, reply_text};
 ghost use Rattle.dd_loop.specs.Saying.{IsIdle, SaysAlone};
-ghost use Rattle.dd_serve.specs.Formats.{Formats, FormatLeaves, IsFormatStatus, ending_of};
-ghost use Rattle.dd_serve.specs.Refusing.{Refuses, StopsAtDevice, small_for, refusal_for};
+ghost use Rattle.dd_serve.specs.Formats.{Formats, FormatLeaves, FormatStops, IsFormatStatus, ending_of};
+ghost use Rattle.dd_serve.specs.Refusing.{Refuses, small_for, refusal_for};
 ghost use Rattle.dd_serve.specs.declared.words.Asked.TheVariants.{Format};
 
 use dd_block::Geometry;
@@ -25,7 +25,7 @@ pub fn run_format<R: Rig>(geo: Geometry, rig: &mut R) -> u8
     ensures status { IsFormatStatus result }
     ensures refused { R.tells → Refuses (refusal_for (Format geo) (R.device_size rig.old) (shown FlashDevice (R.world rig.old))) result (R.counts rig.old) (R.counts rig.new) (R.world rig.old) (R.world rig.new) }
     ensures emit { result ≡ 6 → Rose (R.counts rig.old).failed_emits (R.counts rig.new).failed_emits }
-    ensures device { result ≡ 7 → StopsAtDevice (Format geo) (λ line. R.tells → SaysAlone line (R.counts rig.old) (R.counts rig.new) (R.world rig.old) (R.world rig.new)) (R.counts rig.old) (R.counts rig.new) }
+    ensures device { result ≡ 7 → FormatStops (λ line. R.tells → SaysAlone line (R.counts rig.old) (R.counts rig.new) (R.world rig.old) (R.world rig.new)) (R.counts rig.old) (R.counts rig.new) }
     ensures looks { result ≡ 3 → Makes (up_to 1 0 0) nothing (R.counts rig.old) (R.counts rig.new) }
     ensures calls { Makes (up_to 1 7 99) (up_to 0 1 0) (R.counts rig.old) (R.counts rig.new) }
     ensures formatted { R.tells → Formats geo result (R.counts rig.old) (R.counts rig.new) (R.world rig.old) (R.world rig.new) }

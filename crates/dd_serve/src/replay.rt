@@ -13,16 +13,17 @@ ghost use Rattle.dd_rig.specs.Clock.{AddsNone, Elapses};
 ghost use Rattle.dd_serve.specs.Calls.{looked};
 ghost use Rattle.dd_serve.specs.Scratch.{Scratched, KeepsDevices};
 ghost use Rattle.dd_loop.specs.Saying.{IsIdle, SaysAlone};
-ghost use Rattle.dd_serve.specs.Refusing.{Refuses, StopsAtDevice, small_for, refusal_for};
+ghost use Rattle.dd_serve.specs.Refusing.{Refuses, small_for, refusal_for};
 ghost use Rattle.dd_serve.specs.Answering.{IsFlash};
-ghost use Rattle.dd_serve.specs.Replays.{Replays, ReplaysAll, ReplaysUpTo, IsBounded, IsFirst, replay_dialect};
+ghost use Rattle.dd_serve.specs.Replays.{IsReplayStatus, ReplayStops, Replays, ReplaysAll, ReplaysUpTo, IsBounded, IsFirst, replay_dialect};
 
 use crate::cache::ScratchCache;
 use crate::scratch::Scratch;
 use crate::words::Plan;
 use dd_block::Fingerprint;
 use dd_loop::{Ending, Halt, finish, serve_lines};
-use dd_model::{Lists, PlainLists};
+use dd_model::Lists;
+use dd_policy::Policy;
 use dd_rig::{Dev, Failed, Rig, Source};
 use dd_script::{REPLY_ROOM, Reader, Refusal, Stop};
 use std::alloc::{AllocError, Global};
@@ -41,11 +42,11 @@ pub fn run_replay<F: Fingerprint, R: Rig, S: Source>(
 ) -> u8
     requires plan { IsPlan plan }
     requires large { small_for (Replay plan) (R.device_size rig.old) ≡ None }
-    ensures status { (result ≤ 8) × (result ≢ 2) }
+    ensures status { IsReplayStatus result }
     ensures refused { R.tells → Refuses (refusal_for (Replay plan) (R.device_size rig.old) (shown FlashDevice (R.world rig.old))) result (R.counts rig.old) (R.counts rig.new) (R.world rig.old) (R.world rig.new) }
     ensures script { result ≡ 5 → Rose (S.failures source.old) (S.failures source.new) }
     ensures emit { result ≡ 6 → Rose (R.counts rig.old).failed_emits (R.counts rig.new).failed_emits }
-    ensures device { result ≡ 7 → StopsAtDevice (Replay plan) (λ line. R.tells → SaysAlone line (R.counts rig.old) (R.counts rig.new) (R.world rig.old) (R.world rig.new)) (R.counts rig.old) (R.counts rig.new) }
+    ensures device { result ≡ 7 → ReplayStops (λ line. R.tells → SaysAlone line (R.counts rig.old) (R.counts rig.new) (R.world rig.old) (R.world rig.new)) (R.counts rig.old) (R.counts rig.new) }
     ensures memory { R.tells → result ≡ 4 → SaysAlone (stop_text Memory) (R.counts rig.old) (R.counts rig.new) (R.world rig.old) (R.world rig.new) }
     ensures served { R.tells → S.tells → refusal_for (Replay plan) (R.device_size rig.old) (shown FlashDevice (R.world rig.old)) ≡ None
         → Replays (F.printed print) plan (R.device_size rig.old DiskDevice) result (S.rest source.old) (R.world rig.old) (R.world rig.new) (looked (R.counts rig.old)) (R.counts rig.new) }
@@ -102,7 +103,7 @@ fn serve_plan<F: Fingerprint, R: Rig, S: Source>(
     ensures idle { result ≡ 4 → IsIdle (R.counts rig.old) (R.counts rig.new) }
     ensures later { NeverFalls (R.counts rig.old) (R.counts rig.new) }
 {
-    let Ok(served) = serve_script::<PlainLists, F, R, S>(alloc, plan, source, rig, print) else {
+    let Ok(served) = serve_script::<Policy, F, R, S>(alloc, plan, source, rig, print) else {
         return finish(rig, Ending::Stopped(Stop::Memory));
     };
     match served {

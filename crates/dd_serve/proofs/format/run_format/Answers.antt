@@ -57,7 +57,7 @@ returns-in-Err-clause-device g c = λ seven.
     let ending : ending_line c.ending_of.result ≡ ending_line (ending_of why) = ap ending_line c.ending_of.ensures in
     let says : (line : List ℕ) → ending_line (ending_of why) ≡ Some line → g.R.Rig.tells → SaysAlone line before after old new = λ line is t. last_sooner (Some line) before between after old middle new c.in-Err.ensures.later.emits (c.in-Err.ensures.said t)
     (subst (λ (o : Option (List ℕ)). SaysLast o between after middle new) (ending ∙ is) (c.finish.ensures.said t)) in
-    device_fault why c.args.geo (λ line. g.R.Rig.tells → SaysAlone line before after old new) before after
+    device_fault why (λ line. g.R.Rig.tells → SaysAlone line before after old new) before after
     (λ e. let rose = c.in-Err.ensures.read (ap Err e) in omega (arith, rose, ap (λ (d : Calls). d.failed_reads) c.finish.ensures.idle.0))
     (λ e. let rose = c.in-Err.ensures.write (ap Err e) in omega (arith, rose, ap (λ (d : Calls). d.failed_writes) c.finish.ensures.idle.0))
     (λ e. let rose = c.in-Err.ensures.disk_write (ap Err e) in omega (arith, rose, ap (λ (d : Calls). d.failed_writes) c.finish.ensures.idle.1))
