@@ -1,9 +1,14 @@
--- How much the numbers of a store grow in a round of write-back.
-use Rattle.std.proofs.Common.{◌≡◌, ◌⊎◌, ⊎_elim, ℕ, suc, ◌+◌, ◌≤◌, ◌==◌, not, true, false, cond, List, [], ◌∷◌, length, sym, ap, subst, arith}
-use Rattle.std.specs.Prelude.{Result, Ok, Err, OnOk, OnErr}
-use Rattle.dd_model.specs.Listing.{without}
+-- How much the numbers of a store grow in a round of write-back, and in a reference.
+use Rattle.std.proofs.Common.{◌≡◌, ◌⊎◌, ⊎_elim, ℕ, suc, ◌+◌, ◌≤◌, ◌==◌, not, Bool, true, false, cond, List, [], ◌∷◌, ◌++◌, length, sym, ap, subst, arith, if◌then◌else◌}
+use Rattle.std.specs.Prelude.{Result, Ok, Err, OnOk, OnErr, ◌&&◌}
+use Rattle.std.proofs.lemmas.List.{length-append}
+use Rattle.dd_slots.specs.Numbers.{is_among}
+use Rattle.dd_record.specs.declared.rec.Rec.{Rec}
+use Rattle.dd_record.specs.Replay.{Touch}
+use Rattle.dd_model.specs.Listing.{without, dirtied}
 use Rattle.dd_store.specs.declared.fault.StoreFault.{StoreFault}
 use Rattle.dd_store.specs.Keeping.{StoreView}
+use Rattle.dd_store.specs.Referring.{referred_store}
 use Rattle.dd_store.specs.Laying.{all_without, laid_store, marked_store}
 use Rattle.dd_store.specs.Serving.{GrowsLittle, downed}
 
@@ -34,3 +39,18 @@ round_grows old one two now address (Ok done) geo count dirty epoch laid marked 
 round_grows old one two now address (Err fault) geo count dirty epoch laid marked down =
     subst (λ (v : StoreView). GrowsLittle old v) (sym down) (subst (λ (v : StoreView). GrowsLittle old (downed v)) (sym laid)
     (by_fields old (downed (laid_store address one)) geo count epoch (omega (arith, ap length dirty))))
+
+-- no more than one address becomes dirty
+one_more : (address : ℕ) (dirty : Bool) (numbers : List ℕ) → length (dirtied address dirty numbers) ≤ suc (length numbers)
+one_more address dirty numbers =
+    elim (dirty && not (is_among address numbers)) as (λ t. length (if t then numbers ++ address ∷ [] else numbers) ≤ suc (length numbers))
+    [ true ↦ omega (arith, length-append numbers (address ∷ [])) | false ↦ omega arith ]
+
+-- behind room for it, and the reference itself
+pub referred_grows : (old middle now : StoreView) (its : Rec) (touch : Touch) → now ≡ referred_store its touch middle → middle.journal.geo ≡ old.journal.geo → middle.count ≡ old.count
+    → middle.journal.epoch + length middle.dirty ≤ old.journal.epoch + length old.dirty + 2 → GrowsLittle old now
+referred_grows old middle now its touch after geo count rises = subst (λ (v : StoreView). GrowsLittle old v) (sym after) (record {
+  same_geo = geo;
+  count = omega (arith, count);
+  epoch = omega (arith, rises, one_more touch.address touch.dirty middle.dirty);
+})

@@ -1,4 +1,5 @@
 pub mod Bringing
+pub mod Calls
 pub mod Committing
 pub mod Keeping
 pub mod Laying

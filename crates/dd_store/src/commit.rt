@@ -61,6 +61,7 @@ pub fn commit_rows<R: Rig, L: Lists>(
         → Makes (up_to 0 4 (48 * length pending.now + 6)) nothing (R.counts rig.old) (R.counts rig.new) }
     ensures snapshot_calls { journal.old.room < 48 * length pending.now + 6
         → Makes (up_to 0 6 (3 + snapshot_size (L.listing lists.now).table)) nothing (R.counts rig.old) (R.counts rig.new) }
+    ensures disk { (R.counts rig.new).disk ≡ (R.counts rig.old).disk }
     ensures frame { Frame (R.counts rig.old) (R.counts rig.new) (R.device_size rig.old) (R.device_size rig.new) }
 {
     journal.commit(rig, lists, count, pending)

@@ -1,11 +1,10 @@
 // The store.
-ghost use Rattle.std.specs.Prelude.{◌≡◌, ◌⊎◌, ◌+◌, ◌-◌, ◌*◌, ◌^◌, ◌<◌, ◌≤◌, [], length, true, Ok, None, IfOk, OnOk, OnErr, IfErr, IsTrue};
+ghost use Rattle.std.specs.Prelude.{◌≡◌, ◌⊎◌, ◌+◌, ◌-◌, ◌^◌, ◌<◌, ◌≤◌, [], length, true, Ok, None, IfOk, OnOk, OnErr, IfErr, IsTrue};
 ghost use Rattle.dd_rig.specs.declared.device.Dev.TheVariants.{Flash, Disk};
-ghost use Rattle.dd_rig.specs.Clock.{Elapses};
-ghost use Rattle.dd_rig.specs.Counts.{CalledAtMost, Frame, Makes, up_to, nothing, plus, count_sync};
+ghost use Rattle.dd_rig.specs.Counts.{CalledAtMost, Makes, up_to, nothing, plus, count_sync};
 ghost use Rattle.dd_model.specs.State.{State};
 ghost use Rattle.dd_layout.specs.Layout.{flash_need, disk_need};
-ghost use Rattle.dd_journal.specs.Regions.{AreRows, snapshot_size};
+ghost use Rattle.dd_journal.specs.Regions.{AreRows};
 ghost use Rattle.dd_journal.specs.Sitting.{Sits, IsStable};
 ghost use Rattle.dd_store.specs.Meaning.{Means};
 ghost use Rattle.dd_store.specs.declared.fault.StoreFault.TheVariants.{FlashRead, DiskRead, FlashWrite, DiskWrite};
@@ -13,7 +12,8 @@ ghost use Rattle.dd_store.specs.Keeping.{IsStore, Holds, Kept, slots_shown};
 ghost use Rattle.dd_store.specs.Committing.{committed_store};
 ghost use Rattle.dd_store.specs.Laying.{MayLay, marked_store};
 ghost use Rattle.dd_store.specs.Saving.{AreUsesOf};
-ghost use Rattle.dd_store.specs.Serving.{store_of, HasLimits, IsReady, MayCall, Serves, HoldsThen, StaysUp, Faulted, GrowsLittle, LaysOn, unlaid, downed};
+ghost use Rattle.dd_store.specs.Serving.{store_of, HasLimits, IsReady, MayCall, Serves, HoldsThen, GrowsLittle, LaysOn, unlaid, downed};
+ghost use Rattle.dd_store.specs.Calls.{IsSilent, Rests, FailsBy, CostsOfCommit};
 
 use crate::StoreFault;
 use crate::commit::commit_rows;
@@ -136,25 +136,18 @@ impl<F: Fingerprint, L: Lists> Store<F, L> {
             → OnOk result (Kept (F.printed self.old.print) self.new.store (R.world rig.new) s s) }
         ensures holds { R.tells → (s : State) → Holds (F.printed self.old.print) self.old.store (R.world rig.old) s
             → HoldsThen (F.printed self.old.print) result s s self.new.store (R.world rig.new) }
-        ensures unsaid { R.tells → Elapses (R.clock rig.old) (R.clock rig.new) (λ o. o.out ≡ (R.world rig.old).said) }
+        ensures silent { R.tells → IsSilent (R.clock rig.old) (R.clock rig.new) (R.world rig.old) (R.world rig.new) }
         ensures slots { R.tells → slots_shown self.old.store.journal.geo (R.world rig.new) ≡ slots_shown self.old.store.journal.geo (R.world rig.old) }
-        ensures said { R.tells → (R.world rig.new).said ≡ (R.world rig.old).said }
         ensures store { OnOk result (self.new.store ≡ committed_store (unlaid self.old.store) self.new.store.journal) }
         ensures journal { OnOk result (self.new.store.journal.committed ≡ self.old.store.count) }
         ensures geometry { self.new.store.journal.geo ≡ self.old.store.journal.geo }
         ensures epoch { (self.new.store.journal.epoch ≡ self.old.store.journal.epoch) ⊎ (self.new.store.journal.epoch ≡ self.old.store.journal.epoch + 1) }
         ensures rows { (self.new.store.count ≡ self.old.store.count) × (self.new.store.dirty ≡ self.old.store.dirty) }
         ensures fault { IfErr result (λ fault. fault ≡ FlashWrite) }
-        ensures up { StaysUp result self.new.store }
-        ensures print { self.new.print ≡ self.old.print }
-        ensures forgets { self.new.store.laid ≡ [] }
         ensures disk { CalledAtMost nothing (R.counts rig.old).disk (R.counts rig.new).disk }
-        ensures calls { 48 * length self.old.store.pending + 6 ≤ self.old.store.journal.room
-            → Makes (up_to 0 4 (48 * length self.old.store.pending + 6)) nothing (R.counts rig.old) (R.counts rig.new) }
-        ensures snapshot_calls { self.old.store.journal.room < 48 * length self.old.store.pending + 6
-            → Makes (up_to 0 6 (3 + snapshot_size self.old.store.table)) nothing (R.counts rig.old) (R.counts rig.new) }
-        ensures cause { IfErr result (λ fault. Faulted fault (R.counts rig.old) (R.counts rig.new)) }
-        ensures frame { Frame (R.counts rig.old) (R.counts rig.new) (R.device_size rig.old) (R.device_size rig.new) }
+        ensures costs { CostsOfCommit self.old.store (R.counts rig.old) (R.counts rig.new) }
+        ensures rests { Rests result self.old self.new }
+        ensures fails { FailsBy result (R.counts rig.old) (R.counts rig.new) (R.device_size rig.old) (R.device_size rig.new) }
     {
         self.laid.clear();
         match commit_rows(
@@ -186,21 +179,14 @@ impl<F: Fingerprint, L: Lists> Store<F, L> {
             → OnOk result (Kept (F.printed self.old.print) self.new.store (R.world rig.new) s s) }
         ensures holds { R.tells → (s : State) → Holds (F.printed self.old.print) self.old.store (R.world rig.old) s
             → HoldsThen (F.printed self.old.print) result s s self.new.store (R.world rig.new) }
-        ensures unsaid { R.tells → Elapses (R.clock rig.old) (R.clock rig.new) (λ o. o.out ≡ (R.world rig.old).said) }
-        ensures said { R.tells → (R.world rig.new).said ≡ (R.world rig.old).said }
+        ensures silent { R.tells → IsSilent (R.clock rig.old) (R.clock rig.new) (R.world rig.old) (R.world rig.new) }
         ensures count { IfOk result (λ n. (n ≡ self.old.store.count) × (self.new.store.journal.committed ≡ n)) }
         ensures store { OnOk result (self.new.store ≡ committed_store (unlaid self.old.store) self.new.store.journal) }
         ensures fault { IfErr result (λ fault. fault ≡ FlashWrite) }
-        ensures up { StaysUp result self.new.store }
-        ensures print { self.new.print ≡ self.old.print }
         ensures grows { GrowsLittle self.old.store self.new.store }
-        ensures forgets { self.new.store.laid ≡ [] }
-        ensures calls { 48 * length self.old.store.pending + 6 ≤ self.old.store.journal.room
-            → Makes (up_to 0 4 (48 * length self.old.store.pending + 6)) nothing (R.counts rig.old) (R.counts rig.new) }
-        ensures snapshot_calls { self.old.store.journal.room < 48 * length self.old.store.pending + 6
-            → Makes (up_to 0 6 (3 + snapshot_size self.old.store.table)) nothing (R.counts rig.old) (R.counts rig.new) }
-        ensures cause { IfErr result (λ fault. Faulted fault (R.counts rig.old) (R.counts rig.new)) }
-        ensures frame { Frame (R.counts rig.old) (R.counts rig.new) (R.device_size rig.old) (R.device_size rig.new) }
+        ensures costs { CostsOfCommit self.old.store (R.counts rig.old) (R.counts rig.new) }
+        ensures rests { Rests result self.old self.new }
+        ensures fails { FailsBy result (R.counts rig.old) (R.counts rig.new) (R.device_size rig.old) (R.device_size rig.new) }
     {
         match self.commit(rig) {
             Err(fault) => Err(fault),
@@ -219,15 +205,13 @@ impl<F: Fingerprint, L: Lists> Store<F, L> {
             → Serves (F.printed self.old.print) result (R.clock rig.old) (R.clock rig.new) self.new.store (R.world rig.new) c s s }
         ensures holds { R.tells → (s : State) → Holds (F.printed self.old.print) self.old.store (R.world rig.old) s
             → HoldsThen (F.printed self.old.print) result s s self.new.store (R.world rig.new) }
-        ensures unsaid { R.tells → Elapses (R.clock rig.old) (R.clock rig.new) (λ o. o.out ≡ (R.world rig.old).said) }
+        ensures silent { R.tells → IsSilent (R.clock rig.old) (R.clock rig.new) (R.world rig.old) (R.world rig.new) }
         ensures flash { R.tells → (R.world rig.new).flash ≡ (R.world rig.old).flash }
-        ensures said { R.tells → (R.world rig.new).said ≡ (R.world rig.old).said }
         ensures store { LaysOn result address self.old.store self.new.store }
         ensures print { self.new.print ≡ self.old.print }
         ensures calls { Makes (up_to 1 0 0) (up_to 0 1 self.old.store.journal.geo.block) (R.counts rig.old) (R.counts rig.new) }
         ensures written { OnOk result ((R.counts rig.new).disk.written ≡ plus (R.counts rig.old).disk.written self.old.store.journal.geo.block) }
-        ensures cause { IfErr result (λ fault. Faulted fault (R.counts rig.old) (R.counts rig.new)) }
-        ensures frame { Frame (R.counts rig.old) (R.counts rig.new) (R.device_size rig.old) (R.device_size rig.new) }
+        ensures fails { FailsBy result (R.counts rig.old) (R.counts rig.new) (R.device_size rig.old) (R.device_size rig.new) }
     {
         match self.lists.look(address) {
             None => Ok(()),
@@ -260,17 +244,15 @@ impl<F: Fingerprint, L: Lists> Store<F, L> {
             → Serves (F.printed self.old.print) result (R.clock rig.old) (R.clock rig.new) self.new.store (R.world rig.new) c s s }
         ensures holds { R.tells → (s : State) → Holds (F.printed self.old.print) self.old.store (R.world rig.old) s
             → HoldsThen (F.printed self.old.print) result s s self.new.store (R.world rig.new) }
-        ensures unsaid { R.tells → Elapses (R.clock rig.old) (R.clock rig.new) (λ o. o.out ≡ (R.world rig.old).said) }
+        ensures silent { R.tells → IsSilent (R.clock rig.old) (R.clock rig.new) (R.world rig.old) (R.world rig.new) }
         ensures flash { R.tells → (R.world rig.new).flash ≡ (R.world rig.old).flash }
-        ensures said { R.tells → (R.world rig.new).said ≡ (R.world rig.old).said }
         ensures ok { OnOk result (self.new.store ≡ marked_store self.old.store) }
         ensures fewer { OnOk result (length self.new.store.dirty + length self.old.store.laid ≡ length self.old.store.dirty) }
         ensures down { OnErr result (self.new.store ≡ downed self.old.store) }
         ensures fault { IfErr result (λ fault. fault ≡ DiskWrite) }
         ensures print { self.new.print ≡ self.old.print }
         ensures counts { R.counts rig.new ≡ count_sync Disk result (R.counts rig.old) }
-        ensures cause { IfErr result (λ fault. Faulted fault (R.counts rig.old) (R.counts rig.new)) }
-        ensures frame { Frame (R.counts rig.old) (R.counts rig.new) (R.device_size rig.old) (R.device_size rig.new) }
+        ensures fails { FailsBy result (R.counts rig.old) (R.counts rig.new) (R.device_size rig.old) (R.device_size rig.new) }
     {
         match sync_laid(rig) {
             Err(_) => {

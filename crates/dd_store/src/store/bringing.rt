@@ -1,9 +1,9 @@
 // A content is brought to an address: it is found or gets a slot, room is made, and the reference is made.
-ghost use Rattle.std.specs.Prelude.{◌≡◌, ◌≢◌, ◌⊎◌, ◌+◌, ◌-◌, ◌*◌, ◌^◌, ◌<◌, ◌≤◌, [], ℕ, List, length, true, false, Ok, IfOk, IfSome, IfErr, OnOk, IsOk, IsTrue, if◌then◌else◌};
+ghost use Rattle.std.specs.Prelude.{◌≡◌, ◌≢◌, ◌⊎◌, ◌+◌, ◌-◌, ◌*◌, ◌<◌, ◌≤◌, ℕ, List, length, true, false, Ok, IfOk, IfSome, IfErr, OnOk, IsOk, IsTrue, if◌then◌else◌};
 ghost use Rattle.dd_rig.specs.declared.device.Dev.TheVariants.{Flash as FlashDevice};
-ghost use Rattle.dd_rig.specs.Clock.{Elapses, AddsNone};
-ghost use Rattle.dd_rig.specs.Counts.{Frame, Makes, CalledAtMost, up_to, nothing};
-ghost use Rattle.dd_layout.specs.Layout.{slot_block, flash_need};
+ghost use Rattle.dd_rig.specs.Clock.{AddsNone};
+ghost use Rattle.dd_rig.specs.Counts.{Makes, CalledAtMost, up_to, nothing};
+ghost use Rattle.dd_layout.specs.Layout.{flash_need};
 ghost use Rattle.dd_record.specs.declared.row.Link.TheVariants.{Lost};
 ghost use Rattle.dd_record.specs.Spelling.{IsRec};
 ghost use Rattle.dd_record.specs.Table.{is_dirty_at, link_at};
@@ -15,13 +15,14 @@ ghost use Rattle.dd_model.specs.Confirming.{candidates};
 ghost use Rattle.dd_model.specs.Listing.{IsGiven, touch_by, want_of};
 ghost use Rattle.dd_model.specs.Reference.{reference, Tells};
 ghost use Rattle.dd_model.specs.State.{State, content, is_zero_block, is_known};
-ghost use Rattle.dd_store.specs.declared.fault.StoreFault.TheVariants.{FlashRead, DiskRead, FlashWrite};
+ghost use Rattle.dd_store.specs.declared.fault.StoreFault.TheVariants.{FlashRead};
 ghost use Rattle.dd_store.specs.Meaning.{sizes_of};
 ghost use Rattle.dd_store.specs.Keeping.{IsStore, Holds, Kept, slots_shown};
 ghost use Rattle.dd_store.specs.Referring.{listing_in, is_fresh_block, kind_of};
 ghost use Rattle.dd_store.specs.Rounds.{Cleans, HasRoom, LoadsAtMost};
 ghost use Rattle.dd_store.specs.Bringing.{IsPrepared, must_commit, Carries, References, FoundAs, answer_for, want_for, saves, IsReadFault, want_by};
-ghost use Rattle.dd_store.specs.Serving.{IsReady, MayCall, Serves, HoldsThen, StaysUp, Faulted, GrowsLittle, unlaid};
+ghost use Rattle.dd_store.specs.Serving.{MayCall, Serves, HoldsThen, unlaid};
+ghost use Rattle.dd_store.specs.Calls.{IsSilent, Rests, FailsBy, IsNoFetch, LeavesRows};
 
 use super::Store;
 use crate::StoreFault;
@@ -52,11 +53,9 @@ impl<F: Fingerprint, L: Lists> Store<F, L> {
         ensures no_hit { IfOk result (λ done. done.kind ≢ Hit) }
         ensures holds { R.tells → (s : State) → Holds (F.printed self.old.print) self.old.store (R.world rig.old) s → (dirty ≡ false → block.now ≡ content s.array address)
             → HoldsThen (F.printed self.old.print) result s (reference (sizes_of self.old.store.journal.geo) s address block.now) self.new.store (R.world rig.new) }
-        ensures unsaid { R.tells → Elapses (R.clock rig.old) (R.clock rig.new) (λ o. o.out ≡ (R.world rig.old).said) }
+        ensures silent { R.tells → IsSilent (R.clock rig.old) (R.clock rig.new) (R.world rig.old) (R.world rig.new) }
         ensures dup_slots { R.tells → IfOk result (λ done. done.kind ≡ Dup → slots_shown self.old.store.journal.geo (R.world rig.new) ≡ slots_shown self.old.store.journal.geo (R.world rig.old)) }
-        ensures said { R.tells → (R.world rig.new).said ≡ (R.world rig.old).said }
-        ensures rows { IfOk result (References address dirty self.old.store self.new.store) }
-        ensures failed { IfErr result (λ fault. IsReadFault fault → Cleans self.old.store self.new.store) }
+        ensures rows { LeavesRows address dirty result self.old.store self.new.store }
         ensures little { IfOk result (λ done. IsPrepared address (want_for done.kind) self.old.store
             → Makes (up_to (candidates (F.printed self.old.print block.now) self.old.store.table.b) (saves done.kind) (saves done.kind * self.old.store.journal.geo.block)) nothing (R.counts rig.old) (R.counts rig.new)) }
         ensures disk { IfOk result (λ done. HasRoom address (want_for done.kind) self.old.store → CalledAtMost nothing (R.counts rig.old).disk (R.counts rig.new).disk) }
@@ -64,14 +63,9 @@ impl<F: Fingerprint, L: Lists> Store<F, L> {
         ensures idle_held { R.tells → (s : State) → Holds (F.printed self.old.print) self.old.store (R.world rig.old) s → HasRoom address (want_by block.now s.blocks) self.old.store
             → CalledAtMost nothing (R.counts rig.old).disk (R.counts rig.new).disk }
         ensures loads { OnOk result (LoadsAtMost (if dirty then 2 else 0) self.old.store self.new.store (R.counts rig.old).disk (R.counts rig.new).disk) }
-        ensures reads { (R.counts rig.new).disk.reads ≤ (R.counts rig.old).disk.reads }
-        ensures fault { IfErr result (λ fault. fault ≢ DiskRead) }
-        ensures up { StaysUp result self.new.store }
-        ensures print { self.new.print ≡ self.old.print }
-        ensures forgets { self.new.store.laid ≡ [] }
-        ensures grows { GrowsLittle self.old.store self.new.store }
-        ensures cause { IfErr result (λ fault. Faulted fault (R.counts rig.old) (R.counts rig.new)) }
-        ensures frame { Frame (R.counts rig.old) (R.counts rig.new) (R.device_size rig.old) (R.device_size rig.new) }
+        ensures fetches { IsNoFetch result (R.counts rig.old) (R.counts rig.new) }
+        ensures rests { Rests result self.old self.new }
+        ensures fails { FailsBy result (R.counts rig.old) (R.counts rig.new) (R.device_size rig.old) (R.device_size rig.new) }
     {
         let _ = &self.up;
         if is_zero(block) {
@@ -122,8 +116,7 @@ impl<F: Fingerprint, L: Lists> Store<F, L> {
         ensures time { R.tells → AddsNone (R.clock rig.old) (R.clock rig.new) }
         ensures calls { Makes (up_to (candidates fp self.old.store.table.b) 0 0) nothing (R.counts rig.old) (R.counts rig.new) }
         ensures fault { IfErr result (λ fault. fault ≡ FlashRead) }
-        ensures cause { IfErr result (λ fault. Faulted fault (R.counts rig.old) (R.counts rig.new)) }
-        ensures frame { Frame (R.counts rig.old) (R.counts rig.new) (R.device_size rig.old) (R.device_size rig.new) }
+        ensures fails { FailsBy result (R.counts rig.old) (R.counts rig.new) (R.device_size rig.old) (R.device_size rig.new) }
     {
         self.laid.clear();
         match self
@@ -160,23 +153,16 @@ impl<F: Fingerprint, L: Lists> Store<F, L> {
         ensures holds { R.tells → (s : State) → Holds (F.printed self.old.print) self.old.store (R.world rig.old) s → (bytes : List ℕ)
             → Carries (F.printed self.old.print) self.old.store (R.world rig.old).flash.shown s (touch_by address block dirty (listing_in self.old.store)) bytes
             → HoldsThen (F.printed self.old.print) result s (reference (sizes_of self.old.store.journal.geo) s address bytes) self.new.store (R.world rig.new) }
-        ensures unsaid { R.tells → Elapses (R.clock rig.old) (R.clock rig.new) (λ o. o.out ≡ (R.world rig.old).said) }
+        ensures silent { R.tells → IsSilent (R.clock rig.old) (R.clock rig.new) (R.world rig.old) (R.world rig.new) }
         ensures slots { R.tells → slots_shown self.old.store.journal.geo (R.world rig.new) ≡ slots_shown self.old.store.journal.geo (R.world rig.old) }
-        ensures said { R.tells → (R.world rig.new).said ≡ (R.world rig.old).said }
         ensures kind { IfOk result (λ done. done.kind ≡ kind_of its) }
-        ensures rows { IfOk result (References address dirty self.old.store self.new.store) }
-        ensures failed { IfErr result (λ fault. IsReadFault fault → Cleans self.old.store self.new.store) }
+        ensures rows { LeavesRows address dirty result self.old.store self.new.store }
         ensures at_once { IsPrepared address (want_of block) self.old.store → IsOk result × (rig.new ≡ rig.old) }
         ensures disk { HasRoom address (want_of block) self.old.store → CalledAtMost nothing (R.counts rig.old).disk (R.counts rig.new).disk }
         ensures loads { OnOk result (LoadsAtMost (if dirty then 2 else 0) self.old.store self.new.store (R.counts rig.old).disk (R.counts rig.new).disk) }
-        ensures reads { (R.counts rig.new).disk.reads ≤ (R.counts rig.old).disk.reads }
-        ensures fault { IfErr result (λ fault. fault ≢ DiskRead) }
-        ensures up { StaysUp result self.new.store }
-        ensures print { self.new.print ≡ self.old.print }
-        ensures forgets { self.new.store.laid ≡ [] }
-        ensures grows { GrowsLittle self.old.store self.new.store }
-        ensures cause { IfErr result (λ fault. Faulted fault (R.counts rig.old) (R.counts rig.new)) }
-        ensures frame { Frame (R.counts rig.old) (R.counts rig.new) (R.device_size rig.old) (R.device_size rig.new) }
+        ensures fetches { IsNoFetch result (R.counts rig.old) (R.counts rig.new) }
+        ensures rests { Rests result self.old self.new }
+        ensures fails { FailsBy result (R.counts rig.old) (R.counts rig.new) (R.device_size rig.old) (R.device_size rig.new) }
     {
         match self.prepare(rig, address, want_of(block)) {
             Err(fault) => Err(fault),
@@ -209,22 +195,15 @@ impl<F: Fingerprint, L: Lists> Store<F, L> {
         ensures holds { R.tells → (s : State) → Holds (F.printed self.old.print) self.old.store (R.world rig.old) s → fp ≡ F.printed self.old.print block.now
             → is_zero_block block.now ≡ false → is_known block.now s.blocks ≡ false → (dirty ≡ false → block.now ≡ content s.array address)
             → HoldsThen (F.printed self.old.print) result s (reference (sizes_of self.old.store.journal.geo) s address block.now) self.new.store (R.world rig.new) }
-        ensures unsaid { R.tells → Elapses (R.clock rig.old) (R.clock rig.new) (λ o. o.out ≡ (R.world rig.old).said) }
-        ensures said { R.tells → (R.world rig.new).said ≡ (R.world rig.old).said }
+        ensures silent { R.tells → IsSilent (R.clock rig.old) (R.clock rig.new) (R.world rig.old) (R.world rig.new) }
         ensures kind { IfOk result (λ done. done.kind ≡ (if dirty then New else Miss)) }
-        ensures rows { IfOk result (References address dirty self.old.store self.new.store) }
-        ensures failed { IfErr result (λ fault. IsReadFault fault → Cleans self.old.store self.new.store) }
+        ensures rows { LeavesRows address dirty result self.old.store self.new.store }
         ensures at_once { IsPrepared address FreshBlock self.old.store → Makes (up_to 0 1 self.old.store.journal.geo.block) nothing (R.counts rig.old) (R.counts rig.new) }
         ensures disk { HasRoom address FreshBlock self.old.store → CalledAtMost nothing (R.counts rig.old).disk (R.counts rig.new).disk }
         ensures loads { OnOk result (LoadsAtMost (if dirty then 2 else 0) self.old.store self.new.store (R.counts rig.old).disk (R.counts rig.new).disk) }
-        ensures reads { (R.counts rig.new).disk.reads ≤ (R.counts rig.old).disk.reads }
-        ensures fault { IfErr result (λ fault. fault ≢ DiskRead) }
-        ensures up { StaysUp result self.new.store }
-        ensures print { self.new.print ≡ self.old.print }
-        ensures forgets { self.new.store.laid ≡ [] }
-        ensures grows { GrowsLittle self.old.store self.new.store }
-        ensures cause { IfErr result (λ fault. Faulted fault (R.counts rig.old) (R.counts rig.new)) }
-        ensures frame { Frame (R.counts rig.old) (R.counts rig.new) (R.device_size rig.old) (R.device_size rig.new) }
+        ensures fetches { IsNoFetch result (R.counts rig.old) (R.counts rig.new) }
+        ensures rests { Rests result self.old self.new }
+        ensures fails { FailsBy result (R.counts rig.old) (R.counts rig.new) (R.device_size rig.old) (R.device_size rig.new) }
     {
         match self.prepare(rig, address, Want::Fresh) {
             Err(fault) => Err(fault),
@@ -246,9 +225,8 @@ impl<F: Fingerprint, L: Lists> Store<F, L> {
             → Serves (F.printed self.old.print) result (R.clock rig.old) (R.clock rig.new) self.new.store (R.world rig.new) c s s }
         ensures holds { R.tells → (s : State) → Holds (F.printed self.old.print) self.old.store (R.world rig.old) s
             → HoldsThen (F.printed self.old.print) result s s self.new.store (R.world rig.new) }
-        ensures unsaid { R.tells → Elapses (R.clock rig.old) (R.clock rig.new) (λ o. o.out ≡ (R.world rig.old).said) }
+        ensures silent { R.tells → IsSilent (R.clock rig.old) (R.clock rig.new) (R.world rig.old) (R.world rig.new) }
         ensures slots { R.tells → slots_shown self.old.store.journal.geo (R.world rig.new) ≡ slots_shown self.old.store.journal.geo (R.world rig.old) }
-        ensures said { R.tells → (R.world rig.new).said ≡ (R.world rig.old).said }
         ensures ready { OnOk result (IsPrepared address want self.new.store) }
         ensures own { OnOk result (is_dirty_at address self.new.store.table.a ≡ is_dirty_at address self.old.store.table.a) }
         ensures rows { OnOk result (Cleans self.old.store self.new.store) }
@@ -256,16 +234,12 @@ impl<F: Fingerprint, L: Lists> Store<F, L> {
         ensures at_once { IsPrepared address want self.old.store → IsOk result × (rig.new ≡ rig.old) × (self.new.store ≡ unlaid self.old.store) }
         ensures disk { HasRoom address want self.old.store → CalledAtMost nothing (R.counts rig.old).disk (R.counts rig.new).disk }
         ensures loads { OnOk result (LoadsAtMost 0 self.old.store self.new.store (R.counts rig.old).disk (R.counts rig.new).disk) }
-        ensures reads { (R.counts rig.new).disk.reads ≤ (R.counts rig.old).disk.reads }
-        ensures fault { IfErr result (λ fault. fault ≢ DiskRead) }
-        ensures up { StaysUp result self.new.store }
-        ensures print { self.new.print ≡ self.old.print }
-        ensures forgets { self.new.store.laid ≡ [] }
+        ensures fetches { IsNoFetch result (R.counts rig.old) (R.counts rig.new) }
         ensures count { self.new.store.count ≡ self.old.store.count }
         ensures geometry { self.new.store.journal.geo ≡ self.old.store.journal.geo }
         ensures rises { self.new.store.journal.epoch + length self.new.store.dirty ≤ self.old.store.journal.epoch + length self.old.store.dirty + 2 }
-        ensures cause { IfErr result (λ fault. Faulted fault (R.counts rig.old) (R.counts rig.new)) }
-        ensures frame { Frame (R.counts rig.old) (R.counts rig.new) (R.device_size rig.old) (R.device_size rig.new) }
+        ensures rests { Rests result self.old self.new }
+        ensures fails { FailsBy result (R.counts rig.old) (R.counts rig.new) (R.device_size rig.old) (R.device_size rig.new) }
     {
         let _ = &self.up;
         match self.make_room(rig, address, want) {

@@ -1,13 +1,12 @@
 // All dirty addresses are written back.
-ghost use Rattle.std.specs.Prelude.{◌≡◌, ◌≢◌, ◌<◌, ◌≤◌, ℕ, [], Ok, IfErr, OnOk};
-ghost use Rattle.dd_rig.specs.Clock.{Elapses};
-ghost use Rattle.dd_rig.specs.Counts.{Frame};
+ghost use Rattle.std.specs.Prelude.{◌≡◌, ◌<◌, ℕ, [], Ok, OnOk};
 ghost use Rattle.dd_layout.specs.Layout.{disk_block};
 ghost use Rattle.dd_model.specs.State.{State, content};
-ghost use Rattle.dd_store.specs.declared.fault.StoreFault.TheVariants.{FlashRead, DiskRead};
+ghost use Rattle.dd_store.specs.declared.fault.StoreFault.TheVariants.{FlashRead};
 ghost use Rattle.dd_store.specs.Keeping.{Holds, Kept};
-ghost use Rattle.dd_store.specs.Rounds.{Cleans, LoadsAtMost};
-ghost use Rattle.dd_store.specs.Serving.{MayCall, Serves, HoldsThen, StaysUp, Faulted, GrowsLittle};
+ghost use Rattle.dd_store.specs.Rounds.{LoadsAtMost};
+ghost use Rattle.dd_store.specs.Serving.{MayCall, Serves, HoldsThen};
+ghost use Rattle.dd_store.specs.Calls.{IsSilent, Rests, FailsBy, IsNoFetch, CleansBy};
 
 use super::Store;
 use crate::StoreFault;
@@ -29,23 +28,14 @@ impl<F: Fingerprint, L: Lists> Store<F, L> {
             → OnOk result ((address : ℕ) → address < self.old.store.journal.geo.blocks → disk_block self.old.store.journal.geo (R.world rig.new).disk.shown address ≡ content s.array address) }
         ensures holds { R.tells → (s : State) → Holds (F.printed self.old.print) self.old.store (R.world rig.old) s
             → HoldsThen (F.printed self.old.print) result s s self.new.store (R.world rig.new) }
-        ensures unsaid { R.tells → Elapses (R.clock rig.old) (R.clock rig.new) (λ o. o.out ≡ (R.world rig.old).said) }
-        ensures said { R.tells → (R.world rig.new).said ≡ (R.world rig.old).said }
+        ensures silent { R.tells → IsSilent (R.clock rig.old) (R.clock rig.new) (R.world rig.old) (R.world rig.new) }
         ensures none { OnOk result (self.new.store.dirty ≡ []) }
-        ensures rows { OnOk result (Cleans self.old.store self.new.store) }
-        ensures failed { IfErr result (λ fault. fault ≡ FlashRead → Cleans self.old.store self.new.store) }
+        ensures rows { CleansBy result self.old.store self.new.store }
         ensures idle { self.old.store.dirty ≡ [] → (result ≡ Ok tt) × (rig.new ≡ rig.old) }
-        ensures fault { IfErr result (λ fault. fault ≢ DiskRead) }
-        ensures up { StaysUp result self.new.store }
-        ensures print { self.new.print ≡ self.old.print }
-        ensures forgets { self.new.store.laid ≡ [] }
-        ensures count { self.new.store.count ≡ self.old.store.count }
-        ensures geometry { self.new.store.journal.geo ≡ self.old.store.journal.geo }
-        ensures grows { GrowsLittle self.old.store self.new.store }
-        ensures reads { (R.counts rig.new).disk.reads ≤ (R.counts rig.old).disk.reads }
+        ensures fetches { IsNoFetch result (R.counts rig.old) (R.counts rig.new) }
         ensures loads { OnOk result (LoadsAtMost 0 self.old.store self.new.store (R.counts rig.old).disk (R.counts rig.new).disk) }
-        ensures cause { IfErr result (λ fault. Faulted fault (R.counts rig.old) (R.counts rig.new)) }
-        ensures frame { Frame (R.counts rig.old) (R.counts rig.new) (R.device_size rig.old) (R.device_size rig.new) }
+        ensures rests { Rests result self.old self.new }
+        ensures fails { FailsBy result (R.counts rig.old) (R.counts rig.new) (R.device_size rig.old) (R.device_size rig.new) }
     {
         let _ = &self.up;
         self.rounds(rig, Along::Age)

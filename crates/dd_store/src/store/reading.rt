@@ -1,25 +1,21 @@
 // A read.
-ghost use Rattle.std.specs.Prelude.{◌≡◌, ◌+◌, ◌<◌, ◌≤◌, ◌*◌, [], length, true, false, IfOk, IfErr, IfSome, OnOk, IsTrue, if◌then◌else◌};
+ghost use Rattle.std.specs.Prelude.{◌≡◌, ◌<◌, ◌≤◌, ◌*◌, length, false, IfOk, IfErr, OnOk, IsTrue};
 ghost use Rattle.dd_rig.specs.declared.device.Dev.TheVariants.{Flash as FlashDevice, Disk as DiskDevice};
-ghost use Rattle.dd_rig.specs.Clock.{Elapses, AddsNone};
-ghost use Rattle.dd_rig.specs.Counts.{Frame, Makes, CalledAtMost, Rose, up_to, nothing, count_read};
+ghost use Rattle.dd_rig.specs.Clock.{AddsNone};
+ghost use Rattle.dd_rig.specs.Counts.{count_read};
 ghost use Rattle.dd_block.specs.Geometry.{slot_count};
 ghost use Rattle.dd_layout.specs.Layout.{disk_block, disk_need, flash_need, slot_block};
-ghost use Rattle.dd_record.specs.Table.{is_link, link_at};
-ghost use Rattle.dd_model.specs.declared.given.Want.TheVariants.{Fresh as FreshBlock};
+ghost use Rattle.dd_record.specs.Table.{link_at};
 ghost use Rattle.dd_model.specs.declared.kind.Kind.TheVariants.{Hit};
-ghost use Rattle.dd_model.specs.Alignment.{Aligned};
-ghost use Rattle.dd_model.specs.Confirming.{candidates};
 ghost use Rattle.dd_model.specs.Listing.{IsListing};
 ghost use Rattle.dd_model.specs.Reference.{reference, read_answer, Tells};
-ghost use Rattle.dd_model.specs.State.{State, content, is_zero_block};
+ghost use Rattle.dd_model.specs.State.{State, content};
 ghost use Rattle.dd_store.specs.declared.fault.StoreFault.TheVariants.{FlashRead, DiskRead};
 ghost use Rattle.dd_store.specs.Meaning.{sizes_of};
 ghost use Rattle.dd_store.specs.Keeping.{IsStore, Holds, Kept};
 ghost use Rattle.dd_store.specs.Referring.{listing_in};
-ghost use Rattle.dd_store.specs.Rounds.{Cleans, HasRoom, LoadsAtMost};
-ghost use Rattle.dd_store.specs.Bringing.{IsPrepared, References, HitCalls, IsCalm, want_for, saves, fetches, IsReadFault};
-ghost use Rattle.dd_store.specs.Serving.{MayCall, Serves, HoldsThen, StaysUp, Faulted, GrowsLittle, unlaid};
+ghost use Rattle.dd_store.specs.Serving.{MayCall, Serves, HoldsThen, unlaid};
+ghost use Rattle.dd_store.specs.Calls.{IsSilent, Rests, FailsBy, LeavesRows, CostsOfRead};
 
 use super::Store;
 use crate::StoreFault;
@@ -49,33 +45,15 @@ impl<F: Fingerprint, L: Lists> Store<F, L> {
         ensures serves { R.tells → (c s : State) → Kept (F.printed self.old.print) self.old.store (R.world rig.old) c s
             → Serves (F.printed self.old.print) result (R.clock rig.old) (R.clock rig.new) self.new.store (R.world rig.new) c s
             (reference (sizes_of self.old.store.journal.geo) s address (content s.array address)) }
-        ensures answer { R.tells → (c s : State) → Kept (F.printed self.old.print) self.old.store (R.world rig.old) c s
-            → IfOk result (λ done. (into.new ≡ content s.array address) × Tells (F.printed self.old.print) done (read_answer (sizes_of self.old.store.journal.geo) s address)) }
         ensures tells { R.tells → (s : State) → Holds (F.printed self.old.print) self.old.store (R.world rig.old) s
             → IfOk result (λ done. (into.new ≡ content s.array address) × Tells (F.printed self.old.print) done (read_answer (sizes_of self.old.store.journal.geo) s address)) }
         ensures holds { R.tells → (s : State) → Holds (F.printed self.old.print) self.old.store (R.world rig.old) s
             → HoldsThen (F.printed self.old.print) result s (reference (sizes_of self.old.store.journal.geo) s address (content s.array address)) self.new.store (R.world rig.new) }
-        ensures aligned { R.tells → (c s : State) → Kept (F.printed self.old.print) self.old.store (R.world rig.old) c s → Aligned self.old.store.journal.geo.bcap s
-            → OnOk result (Aligned self.old.store.journal.geo.bcap (reference (sizes_of self.old.store.journal.geo) s address (content s.array address))) }
-        ensures unsaid { R.tells → Elapses (R.clock rig.old) (R.clock rig.new) (λ o. o.out ≡ (R.world rig.old).said) }
-        ensures said { R.tells → (R.world rig.new).said ≡ (R.world rig.old).said }
-        ensures rows { IfOk result (References address false self.old.store self.new.store) }
-        ensures failed { IfErr result (λ fault. IsReadFault fault → Cleans self.old.store self.new.store) }
-        ensures hit { is_link (link_at address self.old.store.table.a) ≡ true → CalledAtMost nothing (R.counts rig.old).disk (R.counts rig.new).disk }
-        ensures hit_calls { length self.old.store.pending < self.old.store.journal.geo.group → HitCalls (link_at address self.old.store.table.a) result (R.counts rig.old) (R.counts rig.new) }
-        ensures hit_reads { IfOk result (λ done. done.kind ≡ Hit → is_zero_block into.new ≡ false → Rose (R.counts rig.old).flash.reads (R.counts rig.new).flash.reads) }
-        ensures little { IfOk result (λ done. IsPrepared address (want_for done.kind) self.old.store → is_link (link_at address self.old.store.table.a) ≡ false
-            → Makes (up_to (candidates (F.printed self.old.print into.new) self.old.store.table.b) (saves done.kind) (saves done.kind * self.old.store.journal.geo.block)) (up_to 1 0 0) (R.counts rig.old) (R.counts rig.new)) }
-        ensures disk { IfOk result (λ done. HasRoom address (want_for done.kind) self.old.store → CalledAtMost (up_to 1 0 0) (R.counts rig.old).disk (R.counts rig.new).disk) }
-        ensures calm { IfOk result (λ done. IsCalm done.cut → CalledAtMost (up_to (fetches done.kind) 0 0) (R.counts rig.old).disk (R.counts rig.new).disk) }
-        ensures idle { HasRoom address FreshBlock self.old.store → CalledAtMost (up_to 1 0 0) (R.counts rig.old).disk (R.counts rig.new).disk }
-        ensures loads { OnOk result (LoadsAtMost (if is_link (link_at address self.old.store.table.a) then 0 else 1) self.old.store self.new.store (R.counts rig.old).disk (R.counts rig.new).disk) }
-        ensures up { StaysUp result self.new.store }
-        ensures print { self.new.print ≡ self.old.print }
-        ensures forgets { self.new.store.laid ≡ [] }
-        ensures grows { GrowsLittle self.old.store self.new.store }
-        ensures cause { IfErr result (λ fault. Faulted fault (R.counts rig.old) (R.counts rig.new)) }
-        ensures frame { Frame (R.counts rig.old) (R.counts rig.new) (R.device_size rig.old) (R.device_size rig.new) }
+        ensures silent { R.tells → IsSilent (R.clock rig.old) (R.clock rig.new) (R.world rig.old) (R.world rig.new) }
+        ensures rows { LeavesRows address false result self.old.store self.new.store }
+        ensures costs { CostsOfRead (F.printed self.old.print) address result into.new self.old.store self.new.store (R.counts rig.old) (R.counts rig.new) }
+        ensures rests { Rests result self.old self.new }
+        ensures fails { FailsBy result (R.counts rig.old) (R.counts rig.new) (R.device_size rig.old) (R.device_size rig.new) }
     {
         match self.link(address) {
             Link::Lost => match self.read_disk(rig, address, into) {
@@ -129,8 +107,7 @@ impl<F: Fingerprint, L: Lists> Store<F, L> {
         ensures time { R.tells → AddsNone (R.clock rig.old) (R.clock rig.new) }
         ensures counts { R.counts rig.new ≡ count_read DiskDevice result (R.counts rig.old) }
         ensures fault { IfErr result (λ fault. fault ≡ DiskRead) }
-        ensures cause { IfErr result (λ fault. Faulted fault (R.counts rig.old) (R.counts rig.new)) }
-        ensures frame { Frame (R.counts rig.old) (R.counts rig.new) (R.device_size rig.old) (R.device_size rig.new) }
+        ensures fails { FailsBy result (R.counts rig.old) (R.counts rig.new) (R.device_size rig.old) (R.device_size rig.new) }
     {
         self.laid.clear();
         match rig.read(
@@ -160,8 +137,7 @@ impl<F: Fingerprint, L: Lists> Store<F, L> {
         ensures time { R.tells → AddsNone (R.clock rig.old) (R.clock rig.new) }
         ensures counts { R.counts rig.new ≡ count_read FlashDevice result (R.counts rig.old) }
         ensures fault { IfErr result (λ fault. fault ≡ FlashRead) }
-        ensures cause { IfErr result (λ fault. Faulted fault (R.counts rig.old) (R.counts rig.new)) }
-        ensures frame { Frame (R.counts rig.old) (R.counts rig.new) (R.device_size rig.old) (R.device_size rig.new) }
+        ensures fails { FailsBy result (R.counts rig.old) (R.counts rig.new) (R.device_size rig.old) (R.device_size rig.new) }
     {
         self.laid.clear();
         match self.slots.load(rig, slot, into) {

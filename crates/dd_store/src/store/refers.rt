@@ -1,8 +1,7 @@
 // The step itself: rows, count, records and slots go on by one reference.
-ghost use Rattle.std.specs.Prelude.{◌≡◌, ◌⊎◌, ◌+◌, ◌<◌, ◌≤◌, ◌-◌, ◌^◌, [], length, true, false, Ok, IfOk, IfErr, OnErr, IsTrue, if◌then◌else◌};
+ghost use Rattle.std.specs.Prelude.{◌≡◌, ◌⊎◌, ◌+◌, ◌<◌, ◌≤◌, ◌-◌, ◌^◌, length, true, false, Ok, IfOk, IfErr, OnErr, IsTrue, if◌then◌else◌};
 ghost use Rattle.dd_rig.specs.declared.device.Dev.TheVariants.{Flash as FlashDevice};
-ghost use Rattle.dd_rig.specs.Clock.{Elapses};
-ghost use Rattle.dd_rig.specs.Counts.{Frame, Makes, up_to, nothing};
+ghost use Rattle.dd_rig.specs.Counts.{Makes, up_to, nothing};
 ghost use Rattle.dd_layout.specs.Layout.{flash_need};
 ghost use Rattle.dd_record.specs.declared.row.Link.TheVariants.{Lost};
 ghost use Rattle.dd_record.specs.Spelling.{IsRec};
@@ -18,7 +17,8 @@ ghost use Rattle.dd_store.specs.Meaning.{sizes_of};
 ghost use Rattle.dd_store.specs.Keeping.{IsStore, Holds, Kept};
 ghost use Rattle.dd_store.specs.Referring.{RecordFits, referred_store, listing_in, is_fresh_block};
 ghost use Rattle.dd_store.specs.Bringing.{IsPrepared, Enters, answer_for};
-ghost use Rattle.dd_store.specs.Serving.{Serves, HoldsThen, StaysUp, Faulted};
+ghost use Rattle.dd_store.specs.Serving.{Serves, HoldsThen};
+ghost use Rattle.dd_store.specs.Calls.{IsSilent, Rests, FailsBy};
 
 use super::Store;
 use crate::StoreFault;
@@ -85,17 +85,13 @@ impl<F: Fingerprint, L: Lists> Store<F, L> {
         ensures holds { R.tells → (s : State) → Holds (F.printed self.old.print) self.old.store (R.world rig.old) s → fp ≡ F.printed self.old.print block.now
             → is_zero_block block.now ≡ false → is_known block.now s.blocks ≡ false → (dirty ≡ false → block.now ≡ content s.array address)
             → HoldsThen (F.printed self.old.print) result s (reference (sizes_of self.old.store.journal.geo) s address block.now) self.new.store (R.world rig.new) }
-        ensures unsaid { R.tells → Elapses (R.clock rig.old) (R.clock rig.new) (λ o. o.out ≡ (R.world rig.old).said) }
-        ensures said { R.tells → (R.world rig.new).said ≡ (R.world rig.old).said }
+        ensures silent { R.tells → IsSilent (R.clock rig.old) (R.clock rig.new) (R.world rig.old) (R.world rig.new) }
         ensures rows { IfOk result (Enters address fp dirty self.old.store self.new.store) }
         ensures down { OnErr result ((self.new.store.journal ≡ self.old.store.journal) × (self.new.store.dirty ≡ self.old.store.dirty) × (self.new.store.count ≤ self.old.store.count + 1)) }
         ensures fault { IfErr result (λ fault. fault ≡ FlashWrite) }
-        ensures up { StaysUp result self.new.store }
-        ensures print { self.new.print ≡ self.old.print }
-        ensures forgets { self.new.store.laid ≡ [] }
         ensures calls { Makes (up_to 0 1 self.old.store.journal.geo.block) nothing (R.counts rig.old) (R.counts rig.new) }
-        ensures cause { IfErr result (λ fault. Faulted fault (R.counts rig.old) (R.counts rig.new)) }
-        ensures frame { Frame (R.counts rig.old) (R.counts rig.new) (R.device_size rig.old) (R.device_size rig.new) }
+        ensures rests { Rests result self.old self.new }
+        ensures fails { FailsBy result (R.counts rig.old) (R.counts rig.new) (R.device_size rig.old) (R.device_size rig.new) }
     {
         self.laid.clear();
         match place_block(&mut self.slots, rig, block) {

@@ -1,12 +1,11 @@
 // Rounds of write-back: a commit, then as many dirty addresses as a group has records, then a mark.
-ghost use Rattle.std.specs.Prelude.{◌≡◌, ◌≢◌, ◌+◌, ◌-◌, ◌^◌, ◌<◌, ◌≤◌, [], length, true, false, Ok, IfErr, OnOk};
-ghost use Rattle.dd_rig.specs.Clock.{Elapses};
-ghost use Rattle.dd_rig.specs.Counts.{Frame};
+ghost use Rattle.std.specs.Prelude.{◌≡◌, ◌+◌, ◌-◌, ◌^◌, ◌<◌, ◌≤◌, [], length, true, false, Ok, IfErr, OnOk};
 ghost use Rattle.dd_model.specs.State.{State};
 ghost use Rattle.dd_store.specs.declared.fault.StoreFault.TheVariants.{FlashRead, DiskRead};
 ghost use Rattle.dd_store.specs.Keeping.{Holds, Kept, slots_shown};
 ghost use Rattle.dd_store.specs.Rounds.{Cleans, LoadsAtMost, LaysSome, PassesOver, KeepsSkipped, has_along};
-ghost use Rattle.dd_store.specs.Serving.{unlaid, IsReady, Serves, HoldsThen, StaysUp, Faulted};
+ghost use Rattle.dd_store.specs.Serving.{unlaid, IsReady, Serves, HoldsThen};
+ghost use Rattle.dd_store.specs.Calls.{IsSilent, Rests, FailsBy, IsNoFetch};
 
 use super::Store;
 use crate::StoreFault;
@@ -25,25 +24,20 @@ impl<F: Fingerprint, L: Lists> Store<F, L> {
             → Serves (F.printed self.old.print) result (R.clock rig.old) (R.clock rig.new) self.new.store (R.world rig.new) c s s }
         ensures holds { R.tells → (s : State) → Holds (F.printed self.old.print) self.old.store (R.world rig.old) s
             → HoldsThen (F.printed self.old.print) result s s self.new.store (R.world rig.new) }
-        ensures unsaid { R.tells → Elapses (R.clock rig.old) (R.clock rig.new) (λ o. o.out ≡ (R.world rig.old).said) }
+        ensures silent { R.tells → IsSilent (R.clock rig.old) (R.clock rig.new) (R.world rig.old) (R.world rig.new) }
         ensures slots { R.tells → slots_shown self.old.store.journal.geo (R.world rig.new) ≡ slots_shown self.old.store.journal.geo (R.world rig.old) }
-        ensures said { R.tells → (R.world rig.new).said ≡ (R.world rig.old).said }
         ensures none { OnOk result (has_along along self.new.store ≡ false) }
         ensures idle { has_along along self.old.store ≡ false → (result ≡ Ok tt) × (rig.new ≡ rig.old) × (self.new.store ≡ unlaid self.old.store) }
         ensures rows { OnOk result (Cleans self.old.store self.new.store) }
         ensures skips { OnOk result (KeepsSkipped along self.old.store self.new.store) }
         ensures failed { IfErr result (λ fault. fault ≡ FlashRead → Cleans self.old.store self.new.store) }
-        ensures fault { IfErr result (λ fault. fault ≢ DiskRead) }
-        ensures up { StaysUp result self.new.store }
-        ensures print { self.new.print ≡ self.old.print }
-        ensures forgets { self.new.store.laid ≡ [] }
+        ensures fetches { IsNoFetch result (R.counts rig.old) (R.counts rig.new) }
         ensures count { self.new.store.count ≡ self.old.store.count }
         ensures geometry { self.new.store.journal.geo ≡ self.old.store.journal.geo }
         ensures rises { self.new.store.journal.epoch + length self.new.store.dirty ≤ self.old.store.journal.epoch + length self.old.store.dirty + 1 }
-        ensures reads { (R.counts rig.new).disk.reads ≤ (R.counts rig.old).disk.reads }
         ensures loads { OnOk result (LoadsAtMost 0 self.old.store self.new.store (R.counts rig.old).disk (R.counts rig.new).disk) }
-        ensures cause { IfErr result (λ fault. Faulted fault (R.counts rig.old) (R.counts rig.new)) }
-        ensures frame { Frame (R.counts rig.old) (R.counts rig.new) (R.device_size rig.old) (R.device_size rig.new) }
+        ensures rests { Rests result self.old self.new }
+        ensures fails { FailsBy result (R.counts rig.old) (R.counts rig.new) (R.device_size rig.old) (R.device_size rig.new) }
     {
         if self.has_along(along) {
             self.some_rounds(rig, along)
@@ -62,24 +56,19 @@ impl<F: Fingerprint, L: Lists> Store<F, L> {
             → Serves (F.printed self.old.print) result (R.clock rig.old) (R.clock rig.new) self.new.store (R.world rig.new) c s s }
         ensures holds { R.tells → (s : State) → Holds (F.printed self.old.print) self.old.store (R.world rig.old) s
             → HoldsThen (F.printed self.old.print) result s s self.new.store (R.world rig.new) }
-        ensures unsaid { R.tells → Elapses (R.clock rig.old) (R.clock rig.new) (λ o. o.out ≡ (R.world rig.old).said) }
+        ensures silent { R.tells → IsSilent (R.clock rig.old) (R.clock rig.new) (R.world rig.old) (R.world rig.new) }
         ensures slots { R.tells → slots_shown self.old.store.journal.geo (R.world rig.new) ≡ slots_shown self.old.store.journal.geo (R.world rig.old) }
-        ensures said { R.tells → (R.world rig.new).said ≡ (R.world rig.old).said }
         ensures none { OnOk result (has_along along self.new.store ≡ false) }
         ensures rows { OnOk result (Cleans self.old.store self.new.store) }
         ensures skips { OnOk result (KeepsSkipped along self.old.store self.new.store) }
         ensures failed { IfErr result (λ fault. fault ≡ FlashRead → Cleans self.old.store self.new.store) }
-        ensures fault { IfErr result (λ fault. fault ≢ DiskRead) }
-        ensures up { StaysUp result self.new.store }
-        ensures print { self.new.print ≡ self.old.print }
-        ensures forgets { self.new.store.laid ≡ [] }
+        ensures fetches { IsNoFetch result (R.counts rig.old) (R.counts rig.new) }
         ensures count { self.new.store.count ≡ self.old.store.count }
         ensures geometry { self.new.store.journal.geo ≡ self.old.store.journal.geo }
         ensures rises { self.new.store.journal.epoch + length self.new.store.dirty ≤ self.old.store.journal.epoch + length self.old.store.dirty + 1 }
-        ensures reads { (R.counts rig.new).disk.reads ≤ (R.counts rig.old).disk.reads }
         ensures loads { OnOk result (LoadsAtMost 0 self.old.store self.new.store (R.counts rig.old).disk (R.counts rig.new).disk) }
-        ensures cause { IfErr result (λ fault. Faulted fault (R.counts rig.old) (R.counts rig.new)) }
-        ensures frame { Frame (R.counts rig.old) (R.counts rig.new) (R.device_size rig.old) (R.device_size rig.new) }
+        ensures rests { Rests result self.old self.new }
+        ensures fails { FailsBy result (R.counts rig.old) (R.counts rig.new) (R.device_size rig.old) (R.device_size rig.new) }
     {
         self.forget();
         'rounds: while self.has_along(along) {
@@ -100,25 +89,20 @@ impl<F: Fingerprint, L: Lists> Store<F, L> {
             → Serves (F.printed self.old.print) result (R.clock rig.old) (R.clock rig.new) self.new.store (R.world rig.new) c s s }
         ensures holds { R.tells → (s : State) → Holds (F.printed self.old.print) self.old.store (R.world rig.old) s
             → HoldsThen (F.printed self.old.print) result s s self.new.store (R.world rig.new) }
-        ensures unsaid { R.tells → Elapses (R.clock rig.old) (R.clock rig.new) (λ o. o.out ≡ (R.world rig.old).said) }
+        ensures silent { R.tells → IsSilent (R.clock rig.old) (R.clock rig.new) (R.world rig.old) (R.world rig.new) }
         ensures slots { R.tells → slots_shown self.old.store.journal.geo (R.world rig.new) ≡ slots_shown self.old.store.journal.geo (R.world rig.old) }
-        ensures said { R.tells → (R.world rig.new).said ≡ (R.world rig.old).said }
         ensures rows { OnOk result (Cleans self.old.store self.new.store) }
         ensures skips { OnOk result (KeepsSkipped along self.old.store self.new.store) }
         ensures failed { IfErr result (λ fault. fault ≡ FlashRead → Cleans self.old.store self.new.store) }
-        ensures fault { IfErr result (λ fault. fault ≢ DiskRead) }
-        ensures up { StaysUp result self.new.store }
-        ensures print { self.new.print ≡ self.old.print }
-        ensures forgets { self.new.store.laid ≡ [] }
+        ensures fetches { IsNoFetch result (R.counts rig.old) (R.counts rig.new) }
         ensures count { self.new.store.count ≡ self.old.store.count }
         ensures geometry { self.new.store.journal.geo ≡ self.old.store.journal.geo }
         ensures rises { self.new.store.journal.epoch + length self.new.store.dirty ≤ self.old.store.journal.epoch + length self.old.store.dirty + 1 }
         ensures sinks { OnOk result (self.new.store.journal.epoch + length self.new.store.dirty ≤ self.old.store.journal.epoch + length self.old.store.dirty) }
         ensures fewer { OnOk result (length self.new.store.dirty < length self.old.store.dirty) }
-        ensures reads { (R.counts rig.new).disk.reads ≤ (R.counts rig.old).disk.reads }
         ensures loads { OnOk result (LoadsAtMost 0 self.old.store self.new.store (R.counts rig.old).disk (R.counts rig.new).disk) }
-        ensures cause { IfErr result (λ fault. Faulted fault (R.counts rig.old) (R.counts rig.new)) }
-        ensures frame { Frame (R.counts rig.old) (R.counts rig.new) (R.device_size rig.old) (R.device_size rig.new) }
+        ensures rests { Rests result self.old self.new }
+        ensures fails { FailsBy result (R.counts rig.old) (R.counts rig.new) (R.device_size rig.old) (R.device_size rig.new) }
     {
         match self.commit(rig) {
             Err(fault) => Err(fault),
@@ -144,17 +128,15 @@ impl<F: Fingerprint, L: Lists> Store<F, L> {
             → Serves (F.printed self.old.print) result (R.clock rig.old) (R.clock rig.new) self.new.store (R.world rig.new) c s s }
         ensures holds { R.tells → (s : State) → Holds (F.printed self.old.print) self.old.store (R.world rig.old) s
             → HoldsThen (F.printed self.old.print) result s s self.new.store (R.world rig.new) }
-        ensures unsaid { R.tells → Elapses (R.clock rig.old) (R.clock rig.new) (λ o. o.out ≡ (R.world rig.old).said) }
+        ensures silent { R.tells → IsSilent (R.clock rig.old) (R.clock rig.new) (R.world rig.old) (R.world rig.new) }
         ensures flash { R.tells → (R.world rig.new).flash ≡ (R.world rig.old).flash }
-        ensures said { R.tells → (R.world rig.new).said ≡ (R.world rig.old).said }
         ensures store { LaysSome result self.old.store self.new.store }
         ensures some { OnOk result (0 < length self.new.store.laid) }
         ensures skips { OnOk result (PassesOver along self.new.store.laid) }
         ensures print { self.new.print ≡ self.old.print }
         ensures reads { (R.counts rig.new).disk.reads ≤ (R.counts rig.old).disk.reads }
         ensures writes { OnOk result ((R.counts rig.new).disk.writes ≤ (R.counts rig.old).disk.writes + length self.new.store.laid) }
-        ensures cause { IfErr result (λ fault. Faulted fault (R.counts rig.old) (R.counts rig.new)) }
-        ensures frame { Frame (R.counts rig.old) (R.counts rig.new) (R.device_size rig.old) (R.device_size rig.new) }
+        ensures fails { FailsBy result (R.counts rig.old) (R.counts rig.new) (R.device_size rig.old) (R.device_size rig.new) }
     {
         self.laid.clear();
         gather(&self.lists, along, self.geo.group, &mut self.laid);

@@ -1,16 +1,15 @@
 // One dirty address is written back.
-ghost use Rattle.std.specs.Prelude.{◌≡◌, ◌≢◌, ◌+◌, ◌-◌, ◌^◌, ◌<◌, ◌≤◌, [], ◌∷◌, length, true, Ok, None, IfOk, IfSome, IfErr, OnOk};
-ghost use Rattle.dd_rig.specs.Clock.{Elapses};
-ghost use Rattle.dd_rig.specs.Counts.{Frame, CalledAtMost, up_to};
+ghost use Rattle.std.specs.Prelude.{◌≡◌, ◌≢◌, ◌+◌, ◌-◌, ◌^◌, ◌<◌, ◌≤◌, [], length, true, Ok, None, IfOk, IfSome, IfErr, OnOk};
+ghost use Rattle.dd_rig.specs.Counts.{CalledAtMost, up_to};
 ghost use Rattle.dd_layout.specs.Layout.{disk_block};
 ghost use Rattle.dd_record.specs.Table.{is_dirty_at};
 ghost use Rattle.dd_model.specs.State.{State, content};
-ghost use Rattle.dd_model.specs.Listing.{next_of};
 ghost use Rattle.dd_store.specs.declared.fault.StoreFault.TheVariants.{FlashRead, DiskRead};
 ghost use Rattle.dd_store.specs.Keeping.{Holds, Kept, slots_shown};
 ghost use Rattle.dd_store.specs.Committing.{committed_store};
 ghost use Rattle.dd_store.specs.Rounds.{Cleans, LoadsAtMost};
-ghost use Rattle.dd_store.specs.Serving.{written_back, unlaid, IsReady, MayCall, Serves, HoldsThen, StaysUp, Faulted, GrowsLittle};
+ghost use Rattle.dd_store.specs.Serving.{written_back, unlaid, IsReady, MayCall, Serves, HoldsThen, GrowsLittle};
+ghost use Rattle.dd_store.specs.Calls.{IsSilent, Rests, FailsBy, IsNoFetch, CleansBy, TakesOldest};
 
 use super::Store;
 use crate::StoreFault;
@@ -30,26 +29,16 @@ impl<F: Fingerprint, L: Lists> Store<F, L> {
             → IfOk result (λ done. IfSome done (λ address. disk_block self.old.store.journal.geo (R.world rig.new).disk.shown address ≡ content s.array address)) }
         ensures holds { R.tells → (s : State) → Holds (F.printed self.old.print) self.old.store (R.world rig.old) s
             → HoldsThen (F.printed self.old.print) result s s self.new.store (R.world rig.new) }
-        ensures unsaid { R.tells → Elapses (R.clock rig.old) (R.clock rig.new) (λ o. o.out ≡ (R.world rig.old).said) }
-        ensures said { R.tells → (R.world rig.new).said ≡ (R.world rig.old).said }
-        ensures oldest { IfOk result (λ done. done ≡ next_of None self.old.store.dirty) }
-        ensures ages { IfOk result (λ done. IfSome done (λ address. self.old.store.dirty ≡ address ∷ self.new.store.dirty)) }
+        ensures silent { R.tells → IsSilent (R.clock rig.old) (R.clock rig.new) (R.world rig.old) (R.world rig.new) }
+        ensures oldest { TakesOldest result self.old.store self.new.store }
         ensures idle { self.old.store.dirty ≡ [] → (result ≡ Ok None) × (rig.new ≡ rig.old) }
         ensures rows { IfErr result (λ fault. fault ≡ FlashRead → self.new.store ≡ committed_store (unlaid self.old.store) self.new.store.journal) }
-        ensures cleans { OnOk result (Cleans self.old.store self.new.store) }
-        ensures failed { IfErr result (λ fault. fault ≡ FlashRead → Cleans self.old.store self.new.store) }
-        ensures fault { IfErr result (λ fault. fault ≢ DiskRead) }
-        ensures up { StaysUp result self.new.store }
-        ensures print { self.new.print ≡ self.old.print }
-        ensures forgets { self.new.store.laid ≡ [] }
-        ensures geometry { self.new.store.journal.geo ≡ self.old.store.journal.geo }
-        ensures count { self.new.store.count ≡ self.old.store.count }
-        ensures grows { GrowsLittle self.old.store self.new.store }
-        ensures reads { (R.counts rig.new).disk.reads ≤ (R.counts rig.old).disk.reads }
+        ensures cleans { CleansBy result self.old.store self.new.store }
+        ensures fetches { IsNoFetch result (R.counts rig.old) (R.counts rig.new) }
         ensures loads { OnOk result (LoadsAtMost 0 self.old.store self.new.store (R.counts rig.old).disk (R.counts rig.new).disk) }
         ensures disk { CalledAtMost (up_to 0 2 self.old.store.journal.geo.block) (R.counts rig.old).disk (R.counts rig.new).disk }
-        ensures cause { IfErr result (λ fault. Faulted fault (R.counts rig.old) (R.counts rig.new)) }
-        ensures frame { Frame (R.counts rig.old) (R.counts rig.new) (R.device_size rig.old) (R.device_size rig.new) }
+        ensures rests { Rests result self.old self.new }
+        ensures fails { FailsBy result (R.counts rig.old) (R.counts rig.new) (R.device_size rig.old) (R.device_size rig.new) }
     {
         match self.lists.oldest_dirty() {
             None => {
@@ -73,15 +62,11 @@ impl<F: Fingerprint, L: Lists> Store<F, L> {
             → Serves (F.printed self.old.print) result (R.clock rig.old) (R.clock rig.new) self.new.store (R.world rig.new) c s s }
         ensures holds { R.tells → (s : State) → Holds (F.printed self.old.print) self.old.store (R.world rig.old) s
             → HoldsThen (F.printed self.old.print) result s s self.new.store (R.world rig.new) }
-        ensures unsaid { R.tells → Elapses (R.clock rig.old) (R.clock rig.new) (λ o. o.out ≡ (R.world rig.old).said) }
+        ensures silent { R.tells → IsSilent (R.clock rig.old) (R.clock rig.new) (R.world rig.old) (R.world rig.new) }
         ensures slots { R.tells → slots_shown self.old.store.journal.geo (R.world rig.new) ≡ slots_shown self.old.store.journal.geo (R.world rig.old) }
-        ensures said { R.tells → (R.world rig.new).said ≡ (R.world rig.old).said }
         ensures store { OnOk result (self.new.store ≡ written_back address self.old.store self.new.store.journal) }
         ensures rows { IfErr result (λ fault. fault ≡ FlashRead → self.new.store ≡ committed_store (unlaid self.old.store) self.new.store.journal) }
         ensures fault { IfErr result (λ fault. fault ≢ DiskRead) }
-        ensures up { StaysUp result self.new.store }
-        ensures print { self.new.print ≡ self.old.print }
-        ensures forgets { self.new.store.laid ≡ [] }
         ensures geometry { self.new.store.journal.geo ≡ self.old.store.journal.geo }
         ensures count { self.new.store.count ≡ self.old.store.count }
         ensures grows { GrowsLittle self.old.store self.new.store }
@@ -91,8 +76,8 @@ impl<F: Fingerprint, L: Lists> Store<F, L> {
         ensures sinks { OnOk result (self.new.store.journal.epoch + length self.new.store.dirty ≤ self.old.store.journal.epoch + length self.old.store.dirty) }
         ensures loads { OnOk result (LoadsAtMost 0 self.old.store self.new.store (R.counts rig.old).disk (R.counts rig.new).disk) }
         ensures disk { CalledAtMost (up_to 0 2 self.old.store.journal.geo.block) (R.counts rig.old).disk (R.counts rig.new).disk }
-        ensures cause { IfErr result (λ fault. Faulted fault (R.counts rig.old) (R.counts rig.new)) }
-        ensures frame { Frame (R.counts rig.old) (R.counts rig.new) (R.device_size rig.old) (R.device_size rig.new) }
+        ensures rests { Rests result self.old self.new }
+        ensures fails { FailsBy result (R.counts rig.old) (R.counts rig.new) (R.device_size rig.old) (R.device_size rig.new) }
     {
         match self.commit(rig) {
             Err(fault) => Err(fault),

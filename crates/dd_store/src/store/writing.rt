@@ -1,19 +1,15 @@
 // A write.
-ghost use Rattle.std.specs.Prelude.{◌≡◌, ◌≢◌, ◌<◌, ◌≤◌, ◌*◌, [], length, true, false, IfOk, IfErr, OnOk};
-ghost use Rattle.dd_rig.specs.Clock.{Elapses};
-ghost use Rattle.dd_rig.specs.Counts.{Frame, Makes, CalledAtMost, up_to, nothing};
-ghost use Rattle.dd_model.specs.declared.given.Want.TheVariants.{Fresh as FreshBlock};
-ghost use Rattle.dd_model.specs.Alignment.{Aligned, is_rewrite};
-ghost use Rattle.dd_model.specs.Confirming.{candidates};
+ghost use Rattle.std.specs.Prelude.{◌≡◌, ◌<◌, ◌≤◌, length, true, IfOk, OnOk};
+ghost use Rattle.dd_rig.specs.Counts.{CalledAtMost, nothing};
 ghost use Rattle.dd_model.specs.Reference.{reference, write_answer, Tells};
 ghost use Rattle.dd_model.specs.State.{State};
 ghost use Rattle.dd_model.specs.declared.kind.Kind.TheVariants.{Dup};
-ghost use Rattle.dd_store.specs.declared.fault.StoreFault.TheVariants.{DiskRead};
 ghost use Rattle.dd_store.specs.Meaning.{sizes_of};
 ghost use Rattle.dd_store.specs.Keeping.{Holds, Kept, slots_shown};
-ghost use Rattle.dd_store.specs.Rounds.{Cleans, HasRoom, LoadsAtMost};
-ghost use Rattle.dd_store.specs.Bringing.{IsPrepared, References, IsCalm, want_for, saves, IsReadFault, want_by};
-ghost use Rattle.dd_store.specs.Serving.{MayCall, Serves, HoldsThen, StaysUp, Faulted, GrowsLittle};
+ghost use Rattle.dd_store.specs.Rounds.{HasRoom};
+ghost use Rattle.dd_store.specs.Bringing.{want_by};
+ghost use Rattle.dd_store.specs.Serving.{MayCall, Serves, HoldsThen};
+ghost use Rattle.dd_store.specs.Calls.{IsSilent, Rests, FailsBy, IsNoFetch, LeavesRows, CostsOfWrite};
 
 use super::Store;
 use crate::StoreFault;
@@ -41,36 +37,20 @@ impl<F: Fingerprint, L: Lists> Store<F, L> {
         ensures serves { R.tells → (c s : State) → Kept (F.printed self.old.print) self.old.store (R.world rig.old) c s
             → Serves (F.printed self.old.print) result (R.clock rig.old) (R.clock rig.new) self.new.store (R.world rig.new) c s
             (reference (sizes_of self.old.store.journal.geo) s address block.now) }
-        ensures answer { R.tells → (c s : State) → Kept (F.printed self.old.print) self.old.store (R.world rig.old) c s
-            → IfOk result (λ done. Tells (F.printed self.old.print) done (write_answer (sizes_of self.old.store.journal.geo) s address block.now)) }
         ensures tells { R.tells → (s : State) → Holds (F.printed self.old.print) self.old.store (R.world rig.old) s
             → IfOk result (λ done. Tells (F.printed self.old.print) done (write_answer (sizes_of self.old.store.journal.geo) s address block.now)) }
         ensures holds { R.tells → (s : State) → Holds (F.printed self.old.print) self.old.store (R.world rig.old) s
             → HoldsThen (F.printed self.old.print) result s (reference (sizes_of self.old.store.journal.geo) s address block.now) self.new.store (R.world rig.new) }
-        ensures aligned { R.tells → (c s : State) → Kept (F.printed self.old.print) self.old.store (R.world rig.old) c s → is_rewrite s address block.now ≡ false → Aligned self.old.store.journal.geo.bcap s
-            → OnOk result (Aligned self.old.store.journal.geo.bcap (reference (sizes_of self.old.store.journal.geo) s address block.now)) }
-        ensures unsaid { R.tells → Elapses (R.clock rig.old) (R.clock rig.new) (λ o. o.out ≡ (R.world rig.old).said) }
+        ensures silent { R.tells → IsSilent (R.clock rig.old) (R.clock rig.new) (R.world rig.old) (R.world rig.new) }
         ensures dup_slots { R.tells → IfOk result (λ done. done.kind ≡ Dup → slots_shown self.old.store.journal.geo (R.world rig.new) ≡ slots_shown self.old.store.journal.geo (R.world rig.old)) }
-        ensures said { R.tells → (R.world rig.new).said ≡ (R.world rig.old).said }
-        ensures rows { IfOk result (References address true self.old.store self.new.store) }
+        ensures rows { LeavesRows address true result self.old.store self.new.store }
         ensures few { OnOk result (length self.new.store.dirty ≤ self.new.store.journal.geo.acap) }
-        ensures failed { IfErr result (λ fault. IsReadFault fault → Cleans self.old.store self.new.store) }
-        ensures little { IfOk result (λ done. IsPrepared address (want_for done.kind) self.old.store
-            → Makes (up_to (candidates (F.printed self.old.print block.now) self.old.store.table.b) (saves done.kind) (saves done.kind * self.old.store.journal.geo.block)) nothing (R.counts rig.old) (R.counts rig.new)) }
-        ensures disk { IfOk result (λ done. HasRoom address (want_for done.kind) self.old.store → CalledAtMost nothing (R.counts rig.old).disk (R.counts rig.new).disk) }
-        ensures calm { IfOk result (λ done. IsCalm done.cut → CalledAtMost nothing (R.counts rig.old).disk (R.counts rig.new).disk) }
-        ensures idle { HasRoom address FreshBlock self.old.store → CalledAtMost nothing (R.counts rig.old).disk (R.counts rig.new).disk }
         ensures idle_held { R.tells → (s : State) → Holds (F.printed self.old.print) self.old.store (R.world rig.old) s → HasRoom address (want_by block.now s.blocks) self.old.store
             → CalledAtMost nothing (R.counts rig.old).disk (R.counts rig.new).disk }
-        ensures loads { OnOk result (LoadsAtMost 2 self.old.store self.new.store (R.counts rig.old).disk (R.counts rig.new).disk) }
-        ensures reads { (R.counts rig.new).disk.reads ≤ (R.counts rig.old).disk.reads }
-        ensures fault { IfErr result (λ fault. fault ≢ DiskRead) }
-        ensures up { StaysUp result self.new.store }
-        ensures print { self.new.print ≡ self.old.print }
-        ensures forgets { self.new.store.laid ≡ [] }
-        ensures grows { GrowsLittle self.old.store self.new.store }
-        ensures cause { IfErr result (λ fault. Faulted fault (R.counts rig.old) (R.counts rig.new)) }
-        ensures frame { Frame (R.counts rig.old) (R.counts rig.new) (R.device_size rig.old) (R.device_size rig.new) }
+        ensures costs { CostsOfWrite (F.printed self.old.print) address result block.now self.old.store self.new.store (R.counts rig.old) (R.counts rig.new) }
+        ensures fetches { IsNoFetch result (R.counts rig.old) (R.counts rig.new) }
+        ensures rests { Rests result self.old self.new }
+        ensures fails { FailsBy result (R.counts rig.old) (R.counts rig.new) (R.device_size rig.old) (R.device_size rig.new) }
     {
         let done = self.bring(rig, address, block, true);
         self.keeps_few();

@@ -3,7 +3,7 @@ use Rattle.dd_store.specs.Rounds.{HasRoom}
 use Rattle.dd_model.specs.declared.given.Want.{Want}
 use Rattle.dd_store.proofs.Untouched.{for_dup, fresh_dup}
 use Rattle.dd_store.proofs.Holding.{holds_behind, holds_read_failed}
-use Rattle.std.proofs.Common.{◌≡◌, ◌<◌, inl, length, false, sym, ◌∙◌, ap, subst, if◌then◌else◌, true}
+use Rattle.std.proofs.Common.{◌≡◌, ◌<◌, inl, length, false, sym, ◌∙◌, ap, subst, if◌then◌else◌, true, rules}
 use Rattle.std.specs.Prelude.{◌||◌, IfOk, IfSome}
 use Rattle.dd_block.specs.Geometry.{slot_count}
 use Rattle.dd_rig.specs.Counts.{Makes, up_to, nothing}
@@ -93,7 +93,11 @@ returns-in-None-clause-tells g c = λ told s holds read.
     (c.enter.ensures.tells told s held_too printed some found read))
 
 pub returns-in-None-clause-rows : goal.returns-in-None-clause-rows
-returns-in-None-clause-rows g c = references_behind c.args.address c.args.dirty c.args.self.now.store c.find_block.new.self.store c.enter.new.self.store c.find_block.ensures.store c.enter.result c.enter.ensures.rows
+returns-in-None-clause-rows g c = record {
+  made = references_behind c.args.address c.args.dirty c.args.self.now.store c.find_block.new.self.store c.enter.new.self.store c.find_block.ensures.store c.enter.result c.enter.ensures.rows.made;
+  failed = search rules;
+  grows = search rules;
+}
 
 pub returns-in-None-clause-little : goal.returns-in-None-clause-little
 returns-in-None-clause-little g c = little_fresh c.args.address (candidates (g.F.Fingerprint.printed c.args.self.now.print c.args.block.now) c.args.self.now.store.table.b) c.args.dirty c.args.self.now.store c.find_block.new.self.store c.find_block.ensures.store
@@ -153,7 +157,11 @@ returns-in-Some-clause-tells g c = λ told s holds read.
     (subst (λ (v : StoreView). (if c.args.dirty then Dup else Join) ≡ (answer_for c.args.dirty (sizes_of v.journal.geo) s c.args.address c.args.block.now).kind) (sym c.find_block.ensures.store) kind)))
 
 pub returns-in-Some-clause-rows : goal.returns-in-Some-clause-rows
-returns-in-Some-clause-rows g c = references_behind c.args.address c.args.dirty c.args.self.now.store c.find_block.new.self.store c.join-in-Some.new.self.store c.find_block.ensures.store c.join-in-Some.result c.join-in-Some.ensures.rows
+returns-in-Some-clause-rows g c = record {
+  made = references_behind c.args.address c.args.dirty c.args.self.now.store c.find_block.new.self.store c.join-in-Some.new.self.store c.find_block.ensures.store c.join-in-Some.result c.join-in-Some.ensures.rows.made;
+  failed = search rules;
+  grows = search rules;
+}
 
 pub returns-in-Some-clause-little : goal.returns-in-Some-clause-little
 returns-in-Some-clause-little g c = little_known c.args.address (candidates (g.F.Fingerprint.printed c.args.self.now.print c.args.block.now) c.args.self.now.store.table.b) c.args.dirty c.args.self.now.store c.find_block.new.self.store c.find_block.ensures.store

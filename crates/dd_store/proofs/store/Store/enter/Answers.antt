@@ -1,5 +1,5 @@
 use Rattle.dd_store.proofs.Holding.{holds_fault, holds_down}
-use Rattle.std.proofs.Common.{refl, sym, ◌∙◌, ap, subst, Ok, Err}
+use Rattle.std.proofs.Common.{refl, sym, ◌∙◌, ap, subst, Ok, Err, rules}
 use Rattle.dd_block.specs.declared.geometry.Geometry.{Geometry}
 use Rattle.dd_record.specs.declared.rec.Rec.TheVariants.{Store}
 use Rattle.dd_model.specs.declared.done.Cut.{Cut}
@@ -15,6 +15,7 @@ use Rattle.dd_store.specs.Serving.{Serves}
 use Rattle.dd_store.proofs.Brought.{serves_fault}
 use Rattle.dd_store.proofs.Prepared.{anew_still}
 use Rattle.dd_store.proofs.Serves.{serves_then, serves_ok}
+use Rattle.dd_store.proofs.Growing.{referred_grows}
 use Rattle.dd_store.proofs.store.Store.enter.Goals as goal
 
 pub refer_fresh-requires-clause-anew : goal.refer_fresh-requires-clause-anew
@@ -37,9 +38,9 @@ returns-in-Err-refer_fresh-clause-serves g c = λ told was s kept printed some u
     (serves_then print first second last c.prepare.new.self.store c.refer_fresh.new.self.store (g.R.Rig.world c.prepare.new.rig) after was s (reference (sizes_of c.prepare.new.self.store.journal.geo) s c.args.address c.args.block.now)
     (Err c.in-Err-refer_fresh.fault) roomy.crash roomy.leaves
     (λ k held.
-    subst (λ f. Serves {T = Cut} (g.F.Fingerprint.printed f) (Err c.in-Err-refer_fresh.fault) second last c.refer_fresh.new.self.store after k s (reference (sizes_of c.prepare.new.self.store.journal.geo) s c.args.address c.args.block.now)) c.prepare.ensures.print
-    (c.in-Err-refer_fresh.ensures.serves told k s (subst (λ f. Kept (g.F.Fingerprint.printed f) c.prepare.new.self.store (g.R.Rig.world c.prepare.new.rig) k s) (sym c.prepare.ensures.print) held)
-    (printed ∙ ap (λ f. g.F.Fingerprint.printed f c.args.block.now) (sym c.prepare.ensures.print)) some unknown read)))
+    subst (λ f. Serves {T = Cut} (g.F.Fingerprint.printed f) (Err c.in-Err-refer_fresh.fault) second last c.refer_fresh.new.self.store after k s (reference (sizes_of c.prepare.new.self.store.journal.geo) s c.args.address c.args.block.now)) c.prepare.ensures.rests.print
+    (c.in-Err-refer_fresh.ensures.serves told k s (subst (λ f. Kept (g.F.Fingerprint.printed f) c.prepare.new.self.store (g.R.Rig.world c.prepare.new.rig) k s) (sym c.prepare.ensures.rests.print) held)
+    (printed ∙ ap (λ f. g.F.Fingerprint.printed f c.args.block.now) (sym c.prepare.ensures.rests.print)) some unknown read)))
 
 pub returns-in-Ok-refer_fresh-clause-serves : goal.returns-in-Ok-refer_fresh-clause-serves
 returns-in-Ok-refer_fresh-clause-serves g c = λ told was s kept printed some unknown read.
@@ -54,17 +55,17 @@ returns-in-Ok-refer_fresh-clause-serves g c = λ told was s kept printed some un
     (serves_then print first second last c.prepare.new.self.store c.refer_fresh.new.self.store (g.R.Rig.world c.prepare.new.rig) after was s (reference (sizes_of c.prepare.new.self.store.journal.geo) s c.args.address c.args.block.now)
     (Ok c.in-Ok-refer_fresh.cut) roomy.crash roomy.leaves
     (λ k held.
-    subst (λ f. Serves {T = Cut} (g.F.Fingerprint.printed f) (Ok c.in-Ok-refer_fresh.cut) second last c.refer_fresh.new.self.store after k s (reference (sizes_of c.prepare.new.self.store.journal.geo) s c.args.address c.args.block.now)) c.prepare.ensures.print
-    (c.in-Ok-refer_fresh.ensures.serves told k s (subst (λ f. Kept (g.F.Fingerprint.printed f) c.prepare.new.self.store (g.R.Rig.world c.prepare.new.rig) k s) (sym c.prepare.ensures.print) held)
-    (printed ∙ ap (λ f. g.F.Fingerprint.printed f c.args.block.now) (sym c.prepare.ensures.print)) some unknown read))))
+    subst (λ f. Serves {T = Cut} (g.F.Fingerprint.printed f) (Ok c.in-Ok-refer_fresh.cut) second last c.refer_fresh.new.self.store after k s (reference (sizes_of c.prepare.new.self.store.journal.geo) s c.args.address c.args.block.now)) c.prepare.ensures.rests.print
+    (c.in-Ok-refer_fresh.ensures.serves told k s (subst (λ f. Kept (g.F.Fingerprint.printed f) c.prepare.new.self.store (g.R.Rig.world c.prepare.new.rig) k s) (sym c.prepare.ensures.rests.print) held)
+    (printed ∙ ap (λ f. g.F.Fingerprint.printed f c.args.block.now) (sym c.prepare.ensures.rests.print)) some unknown read))))
 
 pub returns-in-Ok-refer_fresh-clause-tells : goal.returns-in-Ok-refer_fresh-clause-tells
 returns-in-Ok-refer_fresh-clause-tells g c = λ told s holds printed some unknown read.
     let middle = g.R.Rig.world c.prepare.new.rig in
     let held : Holds (g.F.Fingerprint.printed c.prepare.new.self.print) c.prepare.new.self.store middle s =
-    subst (λ f. Holds (g.F.Fingerprint.printed f) c.prepare.new.self.store middle s) (sym c.prepare.ensures.print) (c.in-Ok.ensures.holds told s holds) in
-    let told_it = c.in-Ok-refer_fresh.ensures.tells told s held (printed ∙ ap (λ f. g.F.Fingerprint.printed f c.args.block.now) (sym c.prepare.ensures.print)) some unknown read in
-    subst (λ f. Tells (g.F.Fingerprint.printed f) (record { kind = c.fresh_kind.result; cut = c.in-Ok-refer_fresh.cut }) (answer_for c.args.dirty (sizes_of c.args.self.now.store.journal.geo) s c.args.address c.args.block.now)) c.prepare.ensures.print
+    subst (λ f. Holds (g.F.Fingerprint.printed f) c.prepare.new.self.store middle s) (sym c.prepare.ensures.rests.print) (c.in-Ok.ensures.holds told s holds) in
+    let told_it = c.in-Ok-refer_fresh.ensures.tells told s held (printed ∙ ap (λ f. g.F.Fingerprint.printed f c.args.block.now) (sym c.prepare.ensures.rests.print)) some unknown read in
+    subst (λ f. Tells (g.F.Fingerprint.printed f) (record { kind = c.fresh_kind.result; cut = c.in-Ok-refer_fresh.cut }) (answer_for c.args.dirty (sizes_of c.args.self.now.store.journal.geo) s c.args.address c.args.block.now)) c.prepare.ensures.rests.print
     (subst (λ (geo : Geometry). Tells (g.F.Fingerprint.printed c.prepare.new.self.print) (record { kind = c.fresh_kind.result; cut = c.in-Ok-refer_fresh.cut }) (answer_for c.args.dirty (sizes_of geo) s c.args.address c.args.block.now)) c.in-Ok.ensures.rows.geometry
     (subst (λ k. Tells (g.F.Fingerprint.printed c.prepare.new.self.print) (record { kind = k; cut = c.in-Ok-refer_fresh.cut }) (answer_for c.args.dirty (sizes_of c.prepare.new.self.store.journal.geo) s c.args.address c.args.block.now)) (sym c.fresh_kind.ensures) told_it))
 
@@ -72,16 +73,20 @@ pub returns-in-Ok-refer_fresh-clause-rows : goal.returns-in-Ok-refer_fresh-claus
 returns-in-Ok-refer_fresh-clause-rows g c =
     let enters = c.in-Ok-refer_fresh.ensures.rows in
     record {
-      middle = c.prepare.new.self.store;
-      cleans = c.in-Ok.ensures.rows;
-      own = c.in-Ok.ensures.own;
-      its = Store c.args.address enters.slot c.args.fp c.args.dirty;
-      touch = touch_by c.args.address (Fresh (record { slot = enters.slot; fp = c.args.fp })) c.args.dirty (listing_in c.prepare.new.self.store);
-      fits = enters.fits;
-      at = refl;
-      becomes = refl;
-      after = enters.after;
-      tells = λ i. record { kind = c.fresh_kind.ensures i; cut = enters.falls i };
+      made = record {
+        middle = c.prepare.new.self.store;
+        cleans = c.in-Ok.ensures.rows;
+        own = c.in-Ok.ensures.own;
+        its = Store c.args.address enters.slot c.args.fp c.args.dirty;
+        touch = touch_by c.args.address (Fresh (record { slot = enters.slot; fp = c.args.fp })) c.args.dirty (listing_in c.prepare.new.self.store);
+        fits = enters.fits;
+        at = refl;
+        becomes = refl;
+        after = enters.after;
+        tells = λ i. record { kind = c.fresh_kind.ensures i; cut = enters.falls i };
+      };
+      failed = search rules;
+      grows = referred_grows c.args.self.now.store c.prepare.new.self.store c.refer_fresh.new.self.store (Store c.args.address enters.slot c.args.fp c.args.dirty) (touch_by c.args.address (Fresh (record { slot = enters.slot; fp = c.args.fp })) c.args.dirty (listing_in c.prepare.new.self.store)) enters.after c.prepare.ensures.geometry c.prepare.ensures.count c.prepare.ensures.rises;
     }
 
 pub returns-in-Err-clause-holds : goal.returns-in-Err-clause-holds
@@ -98,7 +103,7 @@ returns-in-Ok-refer_fresh-clause-holds g c = λ told s holds printed some unknow
     let middle = g.R.Rig.world c.prepare.new.rig in
     let after = g.R.Rig.world c.refer_fresh.new.rig in
     let held : Holds (g.F.Fingerprint.printed c.prepare.new.self.print) c.prepare.new.self.store middle s =
-    subst (λ f. Holds (g.F.Fingerprint.printed f) c.prepare.new.self.store middle s) (sym c.prepare.ensures.print) (c.in-Ok.ensures.holds told s holds) in
+    subst (λ f. Holds (g.F.Fingerprint.printed f) c.prepare.new.self.store middle s) (sym c.prepare.ensures.rests.print) (c.in-Ok.ensures.holds told s holds) in
     subst (λ (geo : Geometry). Holds print c.refer_fresh.new.self.store after (reference (sizes_of geo) s c.args.address c.args.block.now)) c.in-Ok.ensures.rows.geometry
-    (subst (λ f. Holds (g.F.Fingerprint.printed f) c.refer_fresh.new.self.store after (reference (sizes_of c.prepare.new.self.store.journal.geo) s c.args.address c.args.block.now)) c.prepare.ensures.print
-    (c.in-Ok-refer_fresh.ensures.holds told s held (printed ∙ ap (λ f. g.F.Fingerprint.printed f c.args.block.now) (sym c.prepare.ensures.print)) some unknown read))
+    (subst (λ f. Holds (g.F.Fingerprint.printed f) c.refer_fresh.new.self.store after (reference (sizes_of c.prepare.new.self.store.journal.geo) s c.args.address c.args.block.now)) c.prepare.ensures.rests.print
+    (c.in-Ok-refer_fresh.ensures.holds told s held (printed ∙ ap (λ f. g.F.Fingerprint.printed f c.args.block.now) (sym c.prepare.ensures.rests.print)) some unknown read))

@@ -1,10 +1,11 @@
 use Rattle.dd_store.proofs.Holding.{holds_fault}
-use Rattle.std.proofs.Common.{refl}
+use Rattle.std.proofs.Common.{refl, rules}
 use Rattle.dd_model.specs.declared.done.Done.{Done}
 use Rattle.dd_model.specs.Listing.{touch_by}
 use Rattle.dd_store.specs.Referring.{listing_in}
 use Rattle.dd_store.proofs.Brought.{joined, joined_tells, serves_fault, joined_holds}
 use Rattle.dd_store.proofs.Prepared.{touches_still}
+use Rattle.dd_store.proofs.Growing.{referred_grows}
 use Rattle.dd_store.proofs.store.Store.join.Goals as goal
 
 pub refer_known-requires-clause-touches : goal.refer_known-requires-clause-touches
@@ -29,16 +30,20 @@ returns-in-Ok-clause-tells g c = λ told s holds bytes carries kind.
 
 pub returns-in-Ok-clause-rows : goal.returns-in-Ok-clause-rows
 returns-in-Ok-clause-rows g c = record {
-  middle = c.prepare.new.self.store;
-  cleans = c.in-Ok.ensures.rows;
-  own = c.in-Ok.ensures.own;
-  its = c.args.its;
-  touch = touch_by c.args.address c.args.block c.args.dirty (listing_in c.prepare.new.self.store);
-  fits = c.refer_known.ensures.fits;
-  at = refl;
-  becomes = refl;
-  after = c.refer_known.ensures.store;
-  tells = λ i. record { kind = c.kind_of.ensures i; cut = c.refer_known.ensures.cut i };
+  made = record {
+    middle = c.prepare.new.self.store;
+    cleans = c.in-Ok.ensures.rows;
+    own = c.in-Ok.ensures.own;
+    its = c.args.its;
+    touch = touch_by c.args.address c.args.block c.args.dirty (listing_in c.prepare.new.self.store);
+    fits = c.refer_known.ensures.fits;
+    at = refl;
+    becomes = refl;
+    after = c.refer_known.ensures.store;
+    tells = λ i. record { kind = c.kind_of.ensures i; cut = c.refer_known.ensures.cut i };
+  };
+  failed = search rules;
+  grows = referred_grows c.args.self.now.store c.prepare.new.self.store c.refer_known.new.self.store c.args.its (touch_by c.args.address c.args.block c.args.dirty (listing_in c.prepare.new.self.store)) c.refer_known.ensures.store c.prepare.ensures.geometry c.prepare.ensures.count c.prepare.ensures.rises;
 }
 
 pub returns-in-Err-clause-holds : goal.returns-in-Err-clause-holds

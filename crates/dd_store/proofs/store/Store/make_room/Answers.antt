@@ -58,7 +58,7 @@ returns-in-Some-clause-serves g c = λ told was s kept.
     let print = g.F.Fingerprint.printed in
     let world = g.R.Rig.world in
     let clock = g.R.Rig.clock in
-    serves_next (print c.args.self.now.print) (print c.clean_out.new.self.print) (ap print c.clean_out.ensures.print) (clock c.args.rig.now) (clock c.clean_out.new.rig) (clock c.rounds.new.rig)
+    serves_next (print c.args.self.now.print) (print c.clean_out.new.self.print) (ap print c.clean_out.ensures.rests.print) (clock c.args.rig.now) (clock c.clean_out.new.rig) (clock c.rounds.new.rig)
     c.clean_out.new.self.store c.rounds.new.self.store (world c.clean_out.new.rig) (world c.rounds.new.rig) was s s tt c.rounds.result
     (c.in-Ok.ensures.serves told was s kept) (λ k held. c.rounds.ensures.serves told k s held)
 
@@ -79,7 +79,7 @@ pub returns-in-Some-clause-holds : goal.returns-in-Some-clause-holds
 returns-in-Some-clause-holds g c = λ told s holds.
     let print = g.F.Fingerprint.printed in
     let world = g.R.Rig.world in
-    holds_next {T = Unit {0}} (print c.args.self.now.print) (print c.clean_out.new.self.print) (ap print c.clean_out.ensures.print) c.clean_out.new.self.store c.rounds.new.self.store (world c.clean_out.new.rig) (world c.rounds.new.rig) s s c.rounds.result
+    holds_next {T = Unit {0}} (print c.args.self.now.print) (print c.clean_out.new.self.print) (ap print c.clean_out.ensures.rests.print) c.clean_out.new.self.store c.rounds.new.self.store (world c.clean_out.new.rig) (world c.rounds.new.rig) s s c.rounds.result
     (c.in-Ok.ensures.holds told s holds) (λ held. c.rounds.ensures.holds told s held)
 
 pub returns-in-None-clause-own : goal.returns-in-None-clause-own

@@ -18,7 +18,7 @@ commit-requires-clause-epoch g c =
 pub returns-then-must_commit-clause-ready : goal.returns-then-must_commit-clause-ready
 returns-then-must_commit-clause-ready g c =
     let middle : StoreView = c.make_room.new.self.store in
-    let is : IsStore middle = c.must_commit.ensures.keeps c.in-Ok.ensures.up in
+    let is : IsStore middle = c.must_commit.ensures.keeps c.in-Ok.ensures.rests.up in
     ready_by c.commit.result middle c.commit.new.self.store c.args.address c.args.want is c.in-Ok.ensures.room c.commit.ensures.store c.commit.ensures.geometry
 
 pub returns-then-must_commit-clause-serves : goal.returns-then-must_commit-clause-serves
@@ -30,8 +30,8 @@ returns-then-must_commit-clause-serves g c = λ told was s kept.
     let roomy = c.in-Ok.ensures.serves told was s kept in
     serves_then print first second last c.make_room.new.self.store c.commit.new.self.store (g.R.Rig.world c.make_room.new.rig) (g.R.Rig.world c.commit.new.rig) was s s c.commit.result roomy.crash roomy.leaves
     (λ k held.
-    subst (λ f. Serves (g.F.Fingerprint.printed f) c.commit.result second last c.commit.new.self.store (g.R.Rig.world c.commit.new.rig) k s s) c.make_room.ensures.print
-    (c.commit.ensures.serves told k s (subst (λ f. Kept (g.F.Fingerprint.printed f) c.make_room.new.self.store (g.R.Rig.world c.make_room.new.rig) k s) (sym c.make_room.ensures.print) held)))
+    subst (λ f. Serves (g.F.Fingerprint.printed f) c.commit.result second last c.commit.new.self.store (g.R.Rig.world c.commit.new.rig) k s s) c.make_room.ensures.rests.print
+    (c.commit.ensures.serves told k s (subst (λ f. Kept (g.F.Fingerprint.printed f) c.make_room.new.self.store (g.R.Rig.world c.make_room.new.rig) k s) (sym c.make_room.ensures.rests.print) held)))
 
 pub returns-then-must_commit-clause-own : goal.returns-then-must_commit-clause-own
 returns-then-must_commit-clause-own g c =
@@ -41,7 +41,7 @@ pub returns-then-must_commit-clause-holds : goal.returns-then-must_commit-clause
 returns-then-must_commit-clause-holds g c = λ told s holds.
     let print = g.F.Fingerprint.printed in
     let world = g.R.Rig.world in
-    holds_next {T = Unit {0}} (print c.args.self.now.print) (print c.make_room.new.self.print) (ap print c.make_room.ensures.print) c.make_room.new.self.store c.commit.new.self.store (world c.make_room.new.rig) (world c.commit.new.rig) s s c.commit.result
+    holds_next {T = Unit {0}} (print c.args.self.now.print) (print c.make_room.new.self.print) (ap print c.make_room.ensures.rests.print) c.make_room.new.self.store c.commit.new.self.store (world c.make_room.new.rig) (world c.commit.new.rig) s s c.commit.result
     (c.in-Ok.ensures.holds told s holds) (λ held. c.commit.ensures.holds told s held)
 
 pub returns-then-must_commit-clause-slots : goal.returns-then-must_commit-clause-slots

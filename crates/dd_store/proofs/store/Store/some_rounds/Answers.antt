@@ -57,18 +57,18 @@ rounds-preserved g c =
       holds = λ told s holds.
           holds_next {T = Unit {0}} (print c.args.self.now.print) (print c.rounds.self.print) (ap print i.print) c.rounds.self.store c.round.new.self.store (world c.rounds.rig) (world c.round.new.rig) s s (Ok tt)
           (i.holds told s holds) (λ held. c.in-Ok.ensures.holds told s held);
-      unsaid = λ told. goes_on (i.unsaid told) (c.round.ensures.unsaid told) (λ o out. out ∙ i.said told);
-      said = λ told. c.round.ensures.said told ∙ i.said told;
+      unsaid = λ told. goes_on (i.unsaid told) ((c.round.ensures.silent told).0) (λ o out. out ∙ i.said told);
+      said = λ told. (c.round.ensures.silent told).1 ∙ i.said told;
       slots = λ told. subst (λ (geo : Geometry). slots_shown geo (world c.round.new.rig) ≡ slots_shown geo (world c.rounds.rig)) i.rows.geometry (c.round.ensures.slots told) ∙ i.slots told;
       rows = cleans_then c.args.self.now.store c.rounds.self.store c.round.new.self.store i.rows c.in-Ok.ensures.rows;
       skips = skips_then c.args.along c.args.self.now.store c.rounds.self.store c.round.new.self.store i.skips c.in-Ok.ensures.skips;
-      up = c.in-Ok.ensures.up;
-      print = c.round.ensures.print ∙ i.print;
-      forgets = c.round.ensures.forgets;
+      up = c.in-Ok.ensures.rests.up;
+      print = c.round.ensures.rests.print ∙ i.print;
+      forgets = c.round.ensures.rests.forgets;
       sinks = omega (arith, i.sinks, c.in-Ok.ensures.sinks);
-      reads = omega (arith, i.reads, c.round.ensures.reads);
+      reads = omega (arith, i.reads, c.round.ensures.fetches.1);
       loads = omega (arith, i.loads, c.in-Ok.ensures.loads);
-      frame = frame_trans _ _ _ _ _ _ i.frame c.round.ensures.frame;
+      frame = frame_trans _ _ _ _ _ _ i.frame c.round.ensures.fails.1;
     }
 
 pub returns-in-Err-clause-holds : goal.returns-in-Err-clause-holds

@@ -60,11 +60,14 @@ returns-in-Err-clause-holds g c = λ told s holds.
 pub returns-in-Ok-clause-holds : goal.returns-in-Ok-clause-holds
 returns-in-Ok-clause-holds g c = λ told s holds. c.in-Ok.ensures.holds told s holds
 
-pub returns-in-Ok-clause-ages : goal.returns-in-Ok-clause-ages
-returns-in-Ok-clause-ages g c =
+pub returns-in-Ok-clause-oldest : goal.returns-in-Ok-clause-oldest
+returns-in-Ok-clause-oldest g c =
     let i = c.self.inside in
     let was : StoreView = store_of i.up i.journal (g.L.Lists.listing i.lists) i.count i.pending.items i.slots.uses i.laid.items in
     let is : IsStore was = c.self.invariant.7 (ap (λ (v : StoreOf g.row.F.Denot). v.store.is_up) c.self.view_is ∙ c.requires.up) in
     let oldest : next_of None was.dirty ≡ Some c.in-Some.address = sym c.oldest_dirty.ensures ∙ c.in-Some.is in
-    subst (λ (v : StoreOf g.row.F.Denot). v.store.dirty ≡ c.in-Some.address ∷ without c.in-Some.address v.store.dirty) c.self.view_is (oldest_first was is c.in-Some.address oldest)
-    ∙ ap (λ (v : StoreView). c.in-Some.address ∷ v.dirty) (sym c.in-Ok.ensures.store)
+    let first : Some c.in-Some.address ≡ next_of None c.args.self.now.store.dirty = sym oldest ∙ ap (λ (v : StoreOf g.row.F.Denot). next_of None v.store.dirty) c.self.view_is in (
+      first,
+      subst (λ (v : StoreOf g.row.F.Denot). v.store.dirty ≡ c.in-Some.address ∷ without c.in-Some.address v.store.dirty) c.self.view_is (oldest_first was is c.in-Some.address oldest)
+          ∙ ap (λ (v : StoreView). c.in-Some.address ∷ v.dirty) (sym c.in-Ok.ensures.store),
+    )

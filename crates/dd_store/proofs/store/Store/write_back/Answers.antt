@@ -16,8 +16,8 @@ returns-in-Err-lay-clause-serves g c = λ told was s kept.
     let committed = c.in-Ok.ensures.serves told was s kept in
     serves_then (g.F.Fingerprint.printed c.args.self.now.print) first middle last c.commit.new.self.store c.lay.new.self.store (g.R.Rig.world c.commit.new.rig) (g.R.Rig.world c.lay.new.rig) was s s
     (Err c.in-Err-lay.fault) committed.crash committed.leaves
-    (λ k held. subst (λ f. Serves {T = Unit {0}} (g.F.Fingerprint.printed f) (Err c.in-Err-lay.fault) middle last c.lay.new.self.store (g.R.Rig.world c.lay.new.rig) k s s) c.commit.ensures.print
-    (c.in-Err-lay.ensures.serves told k s (subst (λ f. Kept (g.F.Fingerprint.printed f) c.commit.new.self.store (g.R.Rig.world c.commit.new.rig) k s) (sym c.commit.ensures.print) held)))
+    (λ k held. subst (λ f. Serves {T = Unit {0}} (g.F.Fingerprint.printed f) (Err c.in-Err-lay.fault) middle last c.lay.new.self.store (g.R.Rig.world c.lay.new.rig) k s s) c.commit.ensures.rests.print
+    (c.in-Err-lay.ensures.serves told k s (subst (λ f. Kept (g.F.Fingerprint.printed f) c.commit.new.self.store (g.R.Rig.world c.commit.new.rig) k s) (sym c.commit.ensures.rests.print) held)))
 
 pub returns-in-Ok-mark-clause-serves : goal.returns-in-Ok-mark-clause-serves
 returns-in-Ok-mark-clause-serves g c = λ told was s kept.
@@ -26,13 +26,13 @@ returns-in-Ok-mark-clause-serves g c = λ told was s kept.
     let second = g.R.Rig.clock c.commit.new.rig in
     let third = g.R.Rig.clock c.lay.new.rig in
     let last = g.R.Rig.clock c.mark.new.rig in
-    let same = c.lay.ensures.print ∙ c.commit.ensures.print in
+    let same = c.lay.ensures.print ∙ c.commit.ensures.rests.print in
     let committed = c.in-Ok.ensures.serves told was s kept in
     serves_then print first second last c.commit.new.self.store c.mark.new.self.store (g.R.Rig.world c.commit.new.rig) (g.R.Rig.world c.mark.new.rig) was s s
     (Ok tt) committed.crash committed.leaves
     (λ k held.
-    let laid = c.in-Ok-lay.ensures.serves told k s (subst (λ f. Kept (g.F.Fingerprint.printed f) c.commit.new.self.store (g.R.Rig.world c.commit.new.rig) k s) (sym c.commit.ensures.print) held) in
-    subst (λ f. Serves {T = Unit {0}} (g.F.Fingerprint.printed f) (Ok tt) second last c.mark.new.self.store (g.R.Rig.world c.mark.new.rig) k s s) c.commit.ensures.print
+    let laid = c.in-Ok-lay.ensures.serves told k s (subst (λ f. Kept (g.F.Fingerprint.printed f) c.commit.new.self.store (g.R.Rig.world c.commit.new.rig) k s) (sym c.commit.ensures.rests.print) held) in
+    subst (λ f. Serves {T = Unit {0}} (g.F.Fingerprint.printed f) (Ok tt) second last c.mark.new.self.store (g.R.Rig.world c.mark.new.rig) k s s) c.commit.ensures.rests.print
     (serves_then (g.F.Fingerprint.printed c.commit.new.self.print) second third last c.lay.new.self.store c.mark.new.self.store (g.R.Rig.world c.lay.new.rig) (g.R.Rig.world c.mark.new.rig) k s s
     (Ok tt) laid.crash laid.leaves
     (λ j now. subst (λ f. Serves {T = Unit {0}} (g.F.Fingerprint.printed f) (Ok tt) third last c.mark.new.self.store (g.R.Rig.world c.mark.new.rig) j s s) c.lay.ensures.print
@@ -45,14 +45,14 @@ returns-in-Err-mark-clause-serves g c = λ told was s kept.
     let second = g.R.Rig.clock c.commit.new.rig in
     let third = g.R.Rig.clock c.lay.new.rig in
     let last = g.R.Rig.clock c.mark.new.rig in
-    let same = c.lay.ensures.print ∙ c.commit.ensures.print in
+    let same = c.lay.ensures.print ∙ c.commit.ensures.rests.print in
     let committed = c.in-Ok.ensures.serves told was s kept in
     serves_down print first last c.mark.new.self.store _ (g.R.Rig.world c.mark.new.rig) was s s c.in-Err-mark.fault c.in-Err-mark.ensures.fault
     (serves_then print first second last c.commit.new.self.store c.mark.new.self.store (g.R.Rig.world c.commit.new.rig) (g.R.Rig.world c.mark.new.rig) was s s
     (Err c.in-Err-mark.fault) committed.crash committed.leaves
     (λ k held.
-    let laid = c.in-Ok-lay.ensures.serves told k s (subst (λ f. Kept (g.F.Fingerprint.printed f) c.commit.new.self.store (g.R.Rig.world c.commit.new.rig) k s) (sym c.commit.ensures.print) held) in
-    subst (λ f. Serves {T = Unit {0}} (g.F.Fingerprint.printed f) (Err c.in-Err-mark.fault) second last c.mark.new.self.store (g.R.Rig.world c.mark.new.rig) k s s) c.commit.ensures.print
+    let laid = c.in-Ok-lay.ensures.serves told k s (subst (λ f. Kept (g.F.Fingerprint.printed f) c.commit.new.self.store (g.R.Rig.world c.commit.new.rig) k s) (sym c.commit.ensures.rests.print) held) in
+    subst (λ f. Serves {T = Unit {0}} (g.F.Fingerprint.printed f) (Err c.in-Err-mark.fault) second last c.mark.new.self.store (g.R.Rig.world c.mark.new.rig) k s s) c.commit.ensures.rests.print
     (serves_then (g.F.Fingerprint.printed c.commit.new.self.print) second third last c.lay.new.self.store c.mark.new.self.store (g.R.Rig.world c.lay.new.rig) (g.R.Rig.world c.mark.new.rig) k s s
     (Err c.in-Err-mark.fault) laid.crash laid.leaves
     (λ j now. subst (λ f. Serves {T = Unit {0}} (g.F.Fingerprint.printed f) (Err c.in-Err-mark.fault) third last c.mark.new.self.store (g.R.Rig.world c.mark.new.rig) j s s) c.lay.ensures.print
@@ -67,14 +67,14 @@ pub returns-in-Err-lay-clause-holds : goal.returns-in-Err-lay-clause-holds
 returns-in-Err-lay-clause-holds g c = λ told s holds.
     let print = g.F.Fingerprint.printed in
     let world = g.R.Rig.world in
-    holds_next {T = Unit {0}} (print c.args.self.now.print) (print c.commit.new.self.print) (ap print c.commit.ensures.print) c.commit.new.self.store c.lay.new.self.store (world c.commit.new.rig) (world c.lay.new.rig) s s (Err c.in-Err-lay.fault)
+    holds_next {T = Unit {0}} (print c.args.self.now.print) (print c.commit.new.self.print) (ap print c.commit.ensures.rests.print) c.commit.new.self.store c.lay.new.self.store (world c.commit.new.rig) (world c.lay.new.rig) s s (Err c.in-Err-lay.fault)
     (c.in-Ok.ensures.holds told s holds) (λ held. c.in-Err-lay.ensures.holds told s held)
 
 pub returns-in-Ok-mark-clause-holds : goal.returns-in-Ok-mark-clause-holds
 returns-in-Ok-mark-clause-holds g c = λ told s holds.
     let print = g.F.Fingerprint.printed in
     let world = g.R.Rig.world in
-    holds_next {T = Unit {0}} (print c.args.self.now.print) (print c.commit.new.self.print) (ap print c.commit.ensures.print) c.commit.new.self.store c.mark.new.self.store (world c.commit.new.rig) (world c.mark.new.rig) s s (Ok tt)
+    holds_next {T = Unit {0}} (print c.args.self.now.print) (print c.commit.new.self.print) (ap print c.commit.ensures.rests.print) c.commit.new.self.store c.mark.new.self.store (world c.commit.new.rig) (world c.mark.new.rig) s s (Ok tt)
     (c.in-Ok.ensures.holds told s holds)
     (λ held. holds_next {T = Unit {0}} (print c.commit.new.self.print) (print c.lay.new.self.print) (ap print c.lay.ensures.print) c.lay.new.self.store c.mark.new.self.store (world c.lay.new.rig) (world c.mark.new.rig) s s (Ok tt)
     (c.in-Ok-lay.ensures.holds told s held) (λ now. c.in-Ok-mark.ensures.holds told s now))
