@@ -1,12 +1,12 @@
 -- What the line that answers each command costs.
-use Rattle.std.proofs.Common.{◌≡◌, ◌≢◌, ⊎_elim, ℕ, ◌+◌, ◌*◌, ◌-◌, ◌<◌, ◌≤◌, Bool, true, false, cond, List, [], ◌∷◌, length, refl, sym, ◌∙◌, ap, subst, arith, if◌then◌else◌, Some, None}
+use Rattle.std.proofs.Common.{◌≡◌, ◌≢◌, ℕ, ◌+◌, ◌*◌, ◌-◌, ◌≤◌, Bool, true, false, cond, List, [], ◌∷◌, length, refl, sym, ◌∙◌, ap, subst, arith, if◌then◌else◌, Some, None}
 use Rattle.std.specs.Prelude.{Option, IfSome, ◌&&◌, option_map, slice_get}
-use Rattle.std.proofs.lemmas.Bool.{cases_lt}
 use Rattle.dd_block.specs.declared.print.Fp.{Fp}
 use Rattle.dd_rig.specs.declared.device.Dev.{Dev}
 use Rattle.dd_rig.specs.declared.device.Dev.TheVariants as dev
+use Rattle.dd_rig.specs.declared.tallies.Calls.{Calls}
 use Rattle.dd_rig.specs.declared.tallies.Counts.{Counts}
-use Rattle.dd_rig.specs.Counts.{CalledAtMost, Makes, NeverFalls, Quota, Rose, nothing, plus, up_to}
+use Rattle.dd_rig.specs.Counts.{CalledAtMost, NeverFalls, Rose, nothing, plus, up_to}
 use Rattle.dd_record.specs.Table.{is_link, link_at}
 use Rattle.dd_record.specs.declared.row.BRow.{BRow}
 use Rattle.dd_model.specs.declared.done.Done.{Done}
@@ -211,8 +211,12 @@ no_read FlashWrite e is = is
 no_read DiskWrite e is = is
 
 -- neither a commit nor a snapshot calls the disk
-pub no_disk : (a b : ℕ) (flash other : Quota) (before after : Counts) → (a ≤ b → Makes flash nothing before after) → (b < a → Makes other nothing before after) → CalledAtMost nothing before.disk after.disk
-no_disk a b flash other before after fits big = ⊎_elim (λ h. (big h).1) (λ h. (fits h).1) (cases_lt b a)
+pub no_disk : (before after : Counts) → after.disk ≡ before.disk → CalledAtMost nothing before.disk after.disk
+no_disk before after same = (
+  omega (arith, ap (λ (calls : Calls). calls.reads) same),
+  omega (arith, ap (λ (calls : Calls). calls.writes) same),
+  omega (arith, ap (λ (calls : Calls). calls.written) same),
+)
 
 -- a line that tells nothing of loads, hits or updates, where nothing was called
 told_costs : (store : StoreView) (counts : Counts) (line : List ℕ) → Counted line 0 0 0 → dirty_behind store.journal.geo.acap (length store.dirty) line ≡ length store.dirty → CostsLines store store (line ∷ []) 0 counts counts

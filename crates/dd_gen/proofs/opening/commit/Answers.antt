@@ -13,23 +13,23 @@ use Rattle.dd_gen.proofs.opening.commit.Goals as goal
 pub returns-in-Err-clause-crash : goal.returns-in-Err-clause-crash
 returns-in-Err-clause-crash g c = λ t one s kept.
     let print : List ℕ → Fp = g.F.Fingerprint.printed c.args.store.print in
-    widens (within_call print one s (g.R.Rig.world c.args.rig.now) (c.flush.ensures.serves t one s kept).crash (c.flush.ensures.unsaid t)) (λ o h. inl h)
+    widens (within_call print one s (g.R.Rig.world c.args.rig.now) (c.flush.ensures.serves t one s kept).crash (c.flush.ensures.silent t).0) (λ o h. inl h)
 
 pub returns-clause-crash : goal.returns-clause-crash
 returns-clause-crash g c = λ t one s kept.
     let print : List ℕ → Fp = g.F.Fingerprint.printed c.args.store.print in
     let now = c.in-Ok.ensures.committed t one s kept in
     let counted : c.in-Ok.count ≡ s.count = c.in-Ok.ensures.count.0 ∙ sym kept.holds.means.lists.counted in
-    goes_on (widens (within_call print one s (g.R.Rig.world c.args.rig.now) (c.flush.ensures.serves t one s kept).crash (c.flush.ensures.unsaid t)) (λ o h. inl h)) (c.say_end.ensures.crash t)
+    goes_on (widens (within_call print one s (g.R.Rig.world c.args.rig.now) (c.flush.ensures.serves t one s kept).crash (c.flush.ensures.silent t).0) (λ o h. inl h)) (c.say_end.ensures.crash t)
     (λ o h. inr (
       now.stands o.flash o.disk h.0.0 h.0.1,
-      subst (λ (said : List ℕ). SaysFront (both_lines c.args.sums s.count) said o.out) (c.flush.ensures.said t)
+      subst (λ (said : List ℕ). SaysFront (both_lines c.args.sums s.count) said o.out) (c.flush.ensures.silent t).1
           (subst (λ (n : ℕ). SaysFront (both_lines c.args.sums n) (g.R.Rig.world c.flush.new.rig).said o.out) counted h.1),
     ))
 
 pub returns-in-Err-clause-ends : goal.returns-in-Err-clause-ends
 returns-in-Err-clause-ends g c = λ t one s kept.
-    (failed_either ℕ (g.F.Fingerprint.printed c.args.store.print) c.in-Err.fault one s s c.flush.new.self.store (g.R.Rig.world c.flush.new.rig) (c.in-Err.ensures.serves t one s kept).leaves, c.flush.ensures.said t)
+    (failed_either ℕ (g.F.Fingerprint.printed c.args.store.print) c.in-Err.fault one s s c.flush.new.self.store (g.R.Rig.world c.flush.new.rig) (c.in-Err.ensures.serves t one s kept).leaves, (c.flush.ensures.silent t).1)
 
 pub returns-clause-ends : goal.returns-clause-ends
 returns-clause-ends g c = λ t one s kept.
@@ -39,13 +39,13 @@ returns-clause-ends g c = λ t one s kept.
     let same = c.say_end.ensures.devices t in
     let counted : c.in-Ok.count ≡ s.count = c.in-Ok.ensures.count.0 ∙ sym kept.holds.means.lists.counted in
     commit_ended print one s c.args.sums c.say_end.result (g.R.Rig.world c.args.rig.now).said new
-    (subst (λ (said : List ℕ). SaysEnd c.say_end.result (both_lines c.args.sums s.count) said new.said) (c.flush.ensures.said t)
+    (subst (λ (said : List ℕ). SaysEnd c.say_end.result (both_lines c.args.sums s.count) said new.said) (c.flush.ensures.silent t).1
     (subst (λ (n : ℕ). SaysEnd c.say_end.result (both_lines c.args.sums n) (g.R.Rig.world c.flush.new.rig).said new.said) counted (c.say_end.ensures.said t)))
     (λ flash disk f d. now.stands flash disk (subst (λ (x : Device). IsImage x flash) same.0 f) (subst (λ (x : Device). IsImage x disk) same.1 d))
 
 pub returns-in-Err-clause-caused : goal.returns-in-Err-clause-caused
 returns-in-Err-clause-caused g c =
-    subst (λ why. Caused ⊥ (Stopped why) (g.R.Rig.counts c.args.rig.now) (g.R.Rig.counts c.flush.new.rig)) (sym c.stopped_by.ensures) (stopped_cause c.in-Err.fault (g.R.Rig.counts c.args.rig.now) (g.R.Rig.counts c.flush.new.rig) c.in-Err.ensures.cause)
+    subst (λ why. Caused ⊥ (Stopped why) (g.R.Rig.counts c.args.rig.now) (g.R.Rig.counts c.flush.new.rig)) (sym c.stopped_by.ensures) (stopped_cause c.in-Err.fault (g.R.Rig.counts c.args.rig.now) (g.R.Rig.counts c.flush.new.rig) c.in-Err.ensures.fails.0)
 
 pub returns-in-Err-clause-memory : goal.returns-in-Err-clause-memory
 returns-in-Err-clause-memory g c = λ e. stopped_memory c.in-Err.fault (ap Stopped (sym c.stopped_by.ensures) ∙ e)

@@ -7,4 +7,4 @@ pub returns-in-Err-clause-serves : goal.returns-in-Err-clause-serves
 returns-in-Err-clause-serves g c = λ t one s kept. let h = c.in-Err.ensures.serves t one s kept in record { crash = h.crash; leaves = h.leaves }
 
 pub returns-in-Ok-clause-answers : goal.returns-in-Ok-clause-answers
-returns-in-Ok-clause-answers g c = λ t one s kept. (c.in-Ok.ensures.answer t one s kept).1
+returns-in-Ok-clause-answers g c = λ t one s kept. (c.in-Ok.ensures.tells t s kept.holds).1
