@@ -7,12 +7,12 @@ use Rattle.std.proofs.lemmas.List.{get_or-set_same, get_or-set_other, get_or_pas
 use Rattle.std.proofs.lemmas.Option.{slice_get-map}
 use Rattle.dd_record.specs.declared.row.BRow.{BRow}
 use Rattle.dd_record.specs.Table.{b_row}
-use Rattle.dd_lists.specs.Lists.{is_in, is_listed, list_at, without, put_front, taken_out, moved_front}
+use Rattle.dd_lists.specs.Lists.{is_in, is_listed, list_at, without, fronted, put_front, taken_out, moved_front}
 use Rattle.dd_lists.specs.Nodes.{Nodes, value_at, is_live, node_count, IsUnlisted}
 use Rattle.dd_lists.proofs.Members.{in_cons, in_here, in_later, in_without_other, gone, distinct_without, distinct_front, at_taken, at_moved, at_put, none_from, unlisted_from}
 use Rattle.dd_lists.proofs.Keys.{got_in_list, within_is}
-use Rattle.dd_index.specs.Index.{Index, nodes_of, Inserts, Removes}
-use Rattle.dd_index.proofs.Under.{filter_in, filter_same, filter_without}
+use Rattle.dd_index.specs.Index.{Index, nodes_of, Inserts, Removes, Fronts}
+use Rattle.dd_index.proofs.Under.{filter_in, filter_same, filter_without, filter_fronted}
 use Rattle.dd_data.specs.Blocks.{Data, in_front, fronted_row}
 use Rattle.dd_data.specs.Matching.{key_of, blank, row_at, is_under, listed, place_at, shown, Matches}
 use Rattle.dd_data.proofs.Mapped.{filter_map, map_in_same, length_without, without_last}
@@ -37,23 +37,20 @@ module _ {bcap : ℕ} {nodes : Nodes BRow} {index : Index} {places : List (Optio
     members_moved : (m : ℕ) → is_in m (list_at 0 (moved_front n nodes.recency)) ≡ is_in m (listed nodes)
     members_moved m = ap (is_in m) listed_moved ∙ members m
 
-    pub moved_matches : (new : Nodes BRow) (mid index' : Index) (key : ℕ) → new ≡ record nodes { recency = moved_front n nodes.recency } → key ≡ key_of (row_at nodes n).fp → Removes index mid n → Inserts mid index' key n → Matches bcap new index' places
-    moved_matches new mid index' key new_is key_is removes inserts =
+    pub moved_matches : (new : Nodes BRow) (index' : Index) → new ≡ record nodes { recency = moved_front n nodes.recency } → Fronts index index' n → Matches bcap new index' places
+    moved_matches new index' new_is fronts =
         let P : Nodes BRow → Type 0 = λ v. Matches bcap v index' places in
         subst P (sym new_is) (record {
           some = k.some;
           room = k.room;
-          keys = inserts.room ∙ removes.room ∙ k.keys;
+          keys = fronts.room ∙ k.keys;
           one = length-map nodes.recency _ ∙ k.one;
           no_referrers = k.no_referrers;
           no_waiting = k.no_waiting;
           live = λ m. k.live m ∙ sym (members_moved m);
           counted = k.counted ∙ sym (length_without n (listed nodes) k.distinct here) ∙ ap (λ (l : List ℕ). length l) (sym listed_moved);
           distinct = subst (λ (xs : List ℕ). IsDistinct (λ x y. x == y) xs) (sym listed_moved) (distinct_front n (without n (listed nodes)) (gone n (listed nodes)) (distinct_without n (listed nodes) k.distinct));
-          indexed = λ other. inserts.nodes other
-              ∙ ap (λ (l : List ℕ). cond (key == other) (n ∷ l) l) (removes.nodes other ∙ ap (without n) (k.indexed other) ∙ sym (filter_without (is_under nodes other) n (listed nodes)))
-              ∙ ap (λ i. cond (i == other) (n ∷ filter (is_under nodes other) (without n (listed nodes))) (filter (is_under nodes other) (without n (listed nodes)))) key_is
-              ∙ ap (filter (is_under nodes other)) (sym listed_moved);
+          indexed = λ key. fronts.nodes key ∙ ap (fronted n) (k.indexed key) ∙ sym (filter_fronted (is_under nodes key) n (listed nodes)) ∙ ap (filter (is_under nodes key)) (sym (at_moved n 0 nodes.recency));
           placed = λ slot m e. (members_moved m ∙ (k.placed slot m e).0, (k.placed slot m e).1);
           found = λ m h. k.found m (sym (members_moved m) ∙ h);
         })

@@ -129,10 +129,8 @@ impl DataCache {
         ensures { self.new ≡ record self.old { rows = fronted_row slot self.old.rows } }
     {
         if let Some(node) = place(&self.places, slot) {
-            let key = key_of(self.nodes.get(node).fp);
             self.nodes.move_front(Lane::Recency, node);
-            self.index.remove(node);
-            self.index.insert(key, node);
+            self.index.move_front(node);
         }
     }
 

@@ -1,29 +1,21 @@
 use Rattle.std.proofs.Common.{◌≡◌, is_some, Some, None, ◌∙◌, ap, sym, refl}
-use Rattle.std.specs.Prelude.{unwrap_or}
 use Rattle.dd_record.specs.Table.{b_row}
-use Rattle.dd_lists.specs.Lists.{is_in}
-use Rattle.dd_lists.proofs.Members.{gone}
-use Rattle.dd_index.specs.Index.{nodes_of}
 use Rattle.dd_data.specs.Blocks.{Data}
-use Rattle.dd_data.specs.Matching.{key_of, blank, row_at, place_at}
+use Rattle.dd_data.specs.Matching.{key_of, row_at, place_at}
 use Rattle.dd_data.proofs.Mapped.{none_since}
 use Rattle.dd_data.proofs.Shown.{chain_in, not_listed}
 use Rattle.dd_data.proofs.Changing.{moved_matches, moved_view}
 use Rattle.dd_data.proofs.cache.DataCache.front_known.Goals as goal
 
-pub remove-requires : goal.remove-requires
-remove-requires c =
+pub move_front-requires-in-Some : goal.move_front-requires-in-Some
+move_front-requires-in-Some c =
     let is : place_at c.args.slot c.self.inside.places.items ≡ Some c.in-Some.node = sym (c.place.ensures ∙ ap (place_at c.args.slot) c.deref.ensures.value) ∙ c.in-Some.is in
     (key_of (row_at c.self.inside.nodes c.in-Some.node).fp, chain_in c.self.invariant c.in-Some.node (key_of (row_at c.self.inside.nodes c.in-Some.node).fp) (c.self.invariant.placed c.args.slot c.in-Some.node is).0 refl)
-
-pub insert-requires-clause-fresh : goal.insert-requires-clause-fresh
-insert-requires-clause-fresh c = λ key. ap (is_in c.in-Some.node) (c.remove.ensures.nodes key) ∙ gone c.in-Some.node (nodes_of key c.self.inside.index)
 
 pub invariant_of-self : goal.invariant_of-self
 invariant_of-self c =
     let is : place_at c.args.slot c.self.inside.places.items ≡ Some c.in-Some.node = sym (c.place.ensures ∙ ap (place_at c.args.slot) c.deref.ensures.value) ∙ c.in-Some.is in
-    let key : c.key_of-key.result ≡ key_of (row_at c.self.inside.nodes c.in-Some.node).fp = c.key_of-key.ensures ∙ ap (λ o. key_of (unwrap_or o blank).fp) (sym c.get.ensures) in
-    moved_matches c.self.invariant c.in-Some.node (c.self.invariant.placed c.args.slot c.in-Some.node is).0 c.move_front.new.self c.remove.new.self c.insert.new.self c.key_of-key.result c.move_front.ensures key c.remove.ensures c.insert.ensures
+    moved_matches c.self.invariant c.in-Some.node (c.self.invariant.placed c.args.slot c.in-Some.node is).0 c.move_front.new.self c.move_front-in-Some.new.self c.move_front.ensures c.move_front-in-Some.ensures
 
 pub returns-in-Some : goal.returns-in-Some
 returns-in-Some c =
