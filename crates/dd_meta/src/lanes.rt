@@ -1,6 +1,6 @@
 // Nodes with a row each: where they stand among the referrers and those that wait.
-ghost use Rattle.std.specs.Prelude.{◌≡◌, ℕ, ◌+◌, ◌<◌, ◌^◌, true, length, option_map, is_some, slice_get, IfSome};
-ghost use Rattle.dd_lists.specs.Lists.{is_in, is_listed, list_at, taken_out};
+ghost use Rattle.std.specs.Prelude.{◌≡◌, ℕ, ◌+◌, ◌<◌, ◌^◌, ◌↔◌, Some, true, length, option_map, is_some, slice_get, IfSome};
+ghost use Rattle.dd_lists.specs.Lists.{is_in, is_listed, list_at, taken_out, put_front};
 ghost use Rattle.dd_lists.specs.Nodes.{is_live};
 ghost use Rattle.dd_meta.specs.Matching.{address_of as address_at, IsBelow, home_of, referring_by, waiting_by, with_row, Unlinks, row_at, passing};
 
@@ -35,6 +35,33 @@ pub fn leave(nodes: &mut Nodes<ARow>, node: u32)
     }
 }
 
+// Whether a node stands in this list of referrers, and so in no other.
+fn stands(nodes: &Nodes<ARow>, node: u32, list: u32) -> bool
+    requires { node < length nodes.now.values }
+    ensures { result ≡ true → (home : ℕ) → (Some list ≡ Some home) ↔ (is_in node (list_at home nodes.now.referrers) ≡ true) }
+{
+    match nodes.list_of(Lane::Referrers, node) {
+        Some(home) => home == list,
+        None => false,
+    }
+}
+
+// Puts a node in front of a list of referrers, out of the one that has it. Where it is in front of this one,
+// nothing is written.
+fn put(nodes: &mut Nodes<ARow>, node: u32, list: u32)
+    requires live { is_live node nodes.old ≡ true }
+    requires list { list < length nodes.old.referrers }
+    requires room { node < length nodes.old.values }
+    ensures { nodes.new ≡ record nodes.old { referrers = put_front list node (taken_out node nodes.old.referrers) } }
+{
+    if stands(nodes, node, list) {
+        nodes.move_front(Lane::Referrers, node);
+    } else {
+        leave(nodes, node);
+        nodes.push_front(Lane::Referrers, list, node);
+    }
+}
+
 // Takes a node out of the referrers that have it, and puts it in front of these.
 fn refer(nodes: &mut Nodes<ARow>, node: u32, home: Option<u32>)
     requires live { is_live node nodes.old ≡ true }
@@ -42,10 +69,9 @@ fn refer(nodes: &mut Nodes<ARow>, node: u32, home: Option<u32>)
     requires room { node < length nodes.old.values }
     ensures { nodes.new ≡ record nodes.old { referrers = referring_by home node nodes.old.referrers } }
 {
-    leave(nodes, node);
     match home {
-        Some(list) => nodes.push_front(Lane::Referrers, list, node),
-        None => {}
+        Some(list) => put(nodes, node, list),
+        None => leave(nodes, node),
     }
 }
 
