@@ -31,7 +31,7 @@ use Rattle.dd_answers.proofs.Lasting.{said_some}
 use Rattle.dd_answers.proofs.Ended.{Stops, says_since}
 use Rattle.dd_gen.specs.Generator.{generated}
 use Rattle.dd_gen.specs.Running.{state_at, sums_at, StandsWithin, Holding}
-use Rattle.dd_gen.specs.Large.{both_lines, last_lines, stopped_by, Caused, CommitEnds, IsFront, IsHeard, LeavesGenerated, RunEnds, SaysEnd, SaysFront, Tells, TellsSums, WithinCommit}
+use Rattle.dd_gen.specs.Large.{both_lines, last_lines, stopped_by, Caused, CommitEnds, IsFront, LeavesGenerated, RunEnds, SaysEnd, SaysFront, Tells, TellsSums, WithinCommit}
 use Rattle.dd_gen.proofs.Fronts.{acks_front}
 use Rattle.dd_gen.proofs.Generated.{count_grows}
 use Rattle.dd_gen.proofs.Ran.{within_either, all_within}
@@ -156,19 +156,6 @@ caused_amid some more w (Stopped stop.Script) a b c d falls later h = h
 caused_amid some more w (Stopped stop.Length) a b c d falls later h = h
 caused_amid some more w (Stopped stop.Memory) a b c d falls later h = h
 caused_amid some more w Unheard a b c d falls later h = omega (arith, h, falls.emits, later.emits)
-
--- both lines, or an emit that failed
-pub heard_cause : (ending : Ending) (a b : Counts) → IsHeard ending a b → Caused ⊥ ending a b
-heard_cause (Served faulted) a b h = h
-heard_cause (Refused why) a b h = absurd h
-heard_cause (Stopped why) a b h = absurd h
-heard_cause Unheard a b h = h
-
-pub heard_memory : (ending : Ending) (a b : Counts) → IsHeard ending a b → ending ≢ Stopped stop.Memory
-heard_memory (Served faulted) a b h = λ e. absurd (cc e)
-heard_memory (Refused why) a b h = absurd h
-heard_memory (Stopped why) a b h = absurd h
-heard_memory Unheard a b h = λ e. absurd (cc e)
 
 -- no call of the store wants memory
 pub stopped_memory : (f : StoreFault) → Stopped (stopped_by f) ≢ Stopped stop.Memory

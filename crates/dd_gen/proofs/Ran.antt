@@ -47,10 +47,6 @@ module _ (print : List ℕ → Fp) (sizes : Sizes) (start : State) (seed : ℕ) 
       → AllStandForEither print (state_at print sizes start seed h.k) (state_at print sizes start seed n) now → AllStandWithin print sizes start seed m now
   all_within n m le store world now h all = λ flash disk f d. within_either n m le store world h flash disk (all flash disk f d)
 
-  -- before the first command
-  pub holding_first : (store : StoreView) (world : World) → Kept print store world start start → Holding print sizes start seed 0 store world
-  holding_first store world kept = record { k = 0; few = omega arith; kept = kept }
-
   -- one command more
   pub holding_next : (n : ℕ) (store later : StoreView) (world new : World) (h : Holding print sizes start seed n store world) (command : Command) → command ≡ (drawn sizes (drawn_on sizes seed n)).command
       → GoesOn print (state_at print sizes start seed h.k) (state_at print sizes start seed n) later new (after sizes (state_at print sizes start seed n) command) → Holding print sizes start seed (n + 1) later new

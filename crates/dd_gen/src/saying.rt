@@ -1,30 +1,13 @@
 // The last lines of a large run.
-ghost use Rattle.std.specs.Prelude.{◌≡◌, OnOk, OnErr};
+ghost use Rattle.std.specs.Prelude.{◌≡◌};
 ghost use Rattle.dd_rig.specs.Clock.{Elapses};
-ghost use Rattle.dd_rig.specs.Counts.{Frame, Rose};
-ghost use Rattle.dd_rig.specs.World.{IsOwn, SaysSome, WithinEmit};
-ghost use Rattle.dd_rig.specs.World as world;
-ghost use Rattle.dd_script.specs.Text.{ended, reply_text};
-ghost use Rattle.dd_loop.specs.Saying.{IsIdle};
+ghost use Rattle.dd_rig.specs.Counts.{Frame};
+ghost use Rattle.dd_rig.specs.World.{IsOwn};
 ghost use Rattle.dd_gen.specs.Large.{both_lines, SaysFront, SaysEnd, IsHeard};
 
-use dd_loop::{Ending, Halt, say};
+use dd_loop::{Ending, say_reply};
 use dd_rig::Rig;
-use dd_script::{REPLY_ROOM, Reply, Sums, write_reply};
-
-// Says one line.
-fn say_reply<R: Rig>(rig: &mut R, reply: Reply) -> Result<(), Halt>
-    ensures said { R.tells → OnOk result (R.world rig.new ≡ world.say (ended (reply_text reply)) (R.world rig.old)) }
-    ensures part { R.tells → SaysSome (ended (reply_text reply)) (R.world rig.old) (R.world rig.new) }
-    ensures time { R.tells → Elapses (R.clock rig.old) (R.clock rig.new) (WithinEmit (ended (reply_text reply)) (R.world rig.old)) }
-    ensures idle { IsIdle (R.counts rig.old) (R.counts rig.new) }
-    ensures rose { OnErr result (Rose (R.counts rig.old).failed_emits (R.counts rig.new).failed_emits) }
-    ensures frame { Frame (R.counts rig.old) (R.counts rig.new) (R.device_size rig.old) (R.device_size rig.new) }
-{
-    let mut text = [0u8; REPLY_ROOM];
-    let size = write_reply(reply, &mut text);
-    say(rig, &text[..size])
-}
+use dd_script::{Reply, Sums};
 
 // Says what the references came to, and how many there were in all.
 #[tactic(auto, using(crate::proofs::Keeps::step_steps))]

@@ -7,9 +7,9 @@ ghost use Rattle.dd_script.specs.Text.{ended, reply_text};
 ghost use Rattle.dd_loop.specs.Ending.{SaysLast, WithinLast, status_of, ending_line, refused_status, stopped_status};
 ghost use Rattle.dd_loop.specs.Saying.{IsIdle, SaysAlone};
 
-use crate::serving::say;
+use crate::saying::say_reply;
 use dd_rig::Rig;
-use dd_script::{REPLY_ROOM, Refusal, Reply, Stop, write_reply};
+use dd_script::{Refusal, Reply, Stop};
 
 /// How a run ends.
 #[derive(Clone, Copy, Debug, PartialEq, Eq)]
@@ -59,9 +59,7 @@ fn say_last<R: Rig>(rig: &mut R, reply: Reply)
     ensures idle { IsIdle (R.counts rig.old) (R.counts rig.new) }
     ensures frame { Frame (R.counts rig.old) (R.counts rig.new) (R.device_size rig.old) (R.device_size rig.new) }
 {
-    let mut text = [0u8; REPLY_ROOM];
-    let size = write_reply(reply, &mut text);
-    let _ = say(rig, &text[..size]);
+    let _ = say_reply(rig, reply);
 }
 
 fn refused_status(why: Refusal) -> u8

@@ -11,9 +11,11 @@
 mod cache;
 mod ending;
 mod halt;
+mod saying;
 mod serving;
 
 pub use cache::{Cache, Written};
 pub use ending::{Ending, finish};
 pub use halt::Halt;
-pub use serving::{say, serve_lines};
+pub use saying::{say, say_reply};
+pub use serving::serve_lines;

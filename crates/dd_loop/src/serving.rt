@@ -2,15 +2,13 @@
 ghost use Rattle.std.specs.Prelude.{◌≡◌, ◌+◌, ◌<◌, ◌≤◌, ◌^◌, ℕ, true, false, List, length, Some, Err, IfSome, IfOk, OnOk, OnErr, IfErr};
 ghost use Rattle.dd_rig.specs.Clock.{Elapses};
 ghost use Rattle.dd_rig.specs.Counts.{Frame, NeverFalls, Rose};
-ghost use Rattle.dd_rig.specs.World as world;
-ghost use Rattle.dd_rig.specs.World.{World, SaysSome, WithinEmit};
+ghost use Rattle.dd_rig.specs.World.{World};
 ghost use Rattle.dd_model.specs.State.{State};
 ghost use Rattle.dd_script.specs.Command.{lists};
 ghost use Rattle.dd_script.specs.Line.{told, asks_lists, IsIn};
 ghost use Rattle.dd_script.specs.Reading.{left, fuel, quits, IsTakenTo};
 ghost use Rattle.dd_script.specs.Script.{commands_of, EndsWithin};
 ghost use Rattle.dd_script.specs.Text.{reply_room};
-ghost use Rattle.dd_loop.specs.declared.halt.Halt.TheVariants.{Output};
 ghost use Rattle.dd_loop.specs.Answering.{Pays, AnswersLine, WithinLine, CutsLine};
 ghost use Rattle.dd_loop.specs.Halting.{Halts, stop_of};
 ghost use Rattle.dd_loop.specs.Serving.{ServedAll, ServedUpTo};
@@ -19,6 +17,7 @@ ghost use Rattle.dd_loop.specs.Terms.{dialect_in};
 
 use crate::cache::Cache;
 use crate::halt::Halt;
+use crate::saying::say;
 use dd_rig::{Rig, Source};
 use dd_script::{Line, Reader, ScriptFault, Stop};
 
@@ -188,17 +187,4 @@ fn say_answer<R: Rig, C: Cache<R>>(
             Ok(written.faulted)
         }
     }
-}
-
-/// Emits a piece.
-pub fn say<R: Rig>(rig: &mut R, piece: &[u8]) -> Result<(), Halt>
-    ensures said { R.tells → OnOk result (R.world rig.new ≡ world.say piece.now (R.world rig.old)) }
-    ensures part { R.tells → SaysSome piece.now (R.world rig.old) (R.world rig.new) }
-    ensures time { R.tells → Elapses (R.clock rig.old) (R.clock rig.new) (WithinEmit piece.now (R.world rig.old)) }
-    ensures idle { ((R.counts rig.new).flash ≡ (R.counts rig.old).flash) × ((R.counts rig.new).disk ≡ (R.counts rig.old).disk) }
-    ensures halt { OnErr result (result ≡ Err Output) }
-    ensures rose { OnErr result (Rose (R.counts rig.old).failed_emits (R.counts rig.new).failed_emits) }
-    ensures frame { Frame (R.counts rig.old) (R.counts rig.new) (R.device_size rig.old) (R.device_size rig.new) }
-{
-    rig.emit(piece).map_err(|_| Halt::Output)
 }

@@ -14,10 +14,10 @@ ghost use Rattle.dd_serve.specs.Refusing.{Refuses, small_for, refusal_for};
 ghost use Rattle.dd_serve.specs.declared.words.Asked.TheVariants.{Format};
 
 use dd_block::Geometry;
-use dd_loop::{Ending, finish, say};
+use dd_loop::{Ending, finish, say_reply};
 use dd_recover::{FormatFault, format_flash};
 use dd_rig::Rig;
-use dd_script::{REPLY_ROOM, Refusal, Reply, Stop, write_reply};
+use dd_script::{Refusal, Reply, Stop};
 
 /// Formats the flash of devices that are large enough, says one line, and answers the status.
 pub fn run_format<R: Rig>(geo: Geometry, rig: &mut R) -> u8
@@ -49,9 +49,7 @@ fn say_formatted<R: Rig>(rig: &mut R) -> u8
     ensures time { R.tells → Elapses (R.clock rig.old) (R.clock rig.new) (λ o. IsOwn (R.world rig.old) o.flash o.disk) }
     ensures idle { IsIdle (R.counts rig.old) (R.counts rig.new) }
 {
-    let mut text = [0u8; REPLY_ROOM];
-    let size = write_reply(Reply::Formatted, &mut text);
-    match say(rig, &text[..size]) {
+    match say_reply(rig, Reply::Formatted) {
         Ok(()) => finish(rig, Ending::Served { faulted: false }),
         Err(_) => finish(rig, Ending::Unheard),
     }
