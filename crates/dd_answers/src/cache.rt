@@ -31,7 +31,7 @@ impl<F: Fingerprint, L: Lists, R: Rig> Cache<R> for StoreCache<F, L> {
 
     ghost costs = { λ old new lines more before after. CostsLines old.store.store new.store.store lines more before after };
 
-    ghost does = { λ before after. Unit {0} };
+    ghost does = { λ terms before after. Unit {0} };
 
     ghost leaves = { λ old new. Unit {0} };
 
@@ -78,11 +78,11 @@ impl<F: Fingerprint, L: Lists, R: Rig> Cache<R> for StoreCache<F, L> {
 
     ghost begun = { λ one two lines p q h. costs_begun one.store.store two.store.store lines p q h };
 
-    ghost does_none = { λ counts. tt };
+    ghost does_none = { λ terms counts. tt };
 
-    ghost does_both = { λ p q r h k. tt };
+    ghost does_both = { λ terms p q r h k. tt };
 
-    ghost does_said = { λ p q r flash disk h. tt };
+    ghost does_said = { λ terms p q r flash disk h. tt };
 
     ghost leaves_all = { λ world. tt };
 

@@ -54,8 +54,8 @@ pub trait Cache<R: Rig> {
     /// the counts, in front of them and behind them.
     ghost costs: { (old new : Self) → (lines : List (List ℕ)) → (more : ℕ) → (before after : Counts) → Type 0 };
 
-    /// How often an answer may call the devices, on every rig.
-    ghost does: { (before after : Counts) → Type 0 };
+    /// How often an answer may call the devices, on every rig, by what stays as it is.
+    ghost does: { Terms → (before after : Counts) → Type 0 };
 
     /// What an answer leaves of the devices, whether it is one or a halt.
     ghost leaves: { (old new : World) → Type 0 };
@@ -91,7 +91,7 @@ pub trait Cache<R: Rig> {
         ensures halt { R.tells → (first : World) (c s : State) → kept self.old first (R.world rig.old) c s
             → IfErr result (λ halt. AllStandForEither (stands (terms self.old) first) c s (R.world rig.new) × costs self.old self.new [] 1 (R.counts rig.old) (R.counts rig.new)) }
         ensures cause { IfErr result (λ halt. HaltsByDevice stops halt (R.counts rig.old) (R.counts rig.new)) }
-        ensures does { does (R.counts rig.old) (R.counts rig.new) }
+        ensures does { does (terms self.old) (R.counts rig.old) (R.counts rig.new) }
         ensures leaves { R.tells → leaves (R.world rig.old) (R.world rig.new) }
         ensures said { R.tells → (R.world rig.new).said ≡ (R.world rig.old).said }
         ensures room { IfOk result (λ written. IfSome written (λ w. w.size ≤ reply_room)) }
@@ -139,11 +139,11 @@ pub trait Cache<R: Rig> {
     ghost begun: { (one two : Self) (lines : List (List ℕ)) (p q : Counts) → costs one two lines 0 p q → costs one two lines 1 p q };
 
     /// Nothing, and one answer after another, and saying something: each does what an answer does.
-    ghost does_none: { (counts : Counts) → does counts counts };
+    ghost does_none: { (terms : Terms) (counts : Counts) → does terms counts counts };
 
-    ghost does_both: { (p q r : Counts) → does p q → does q r → does p r };
+    ghost does_both: { (terms : Terms) (p q r : Counts) → does terms p q → does terms q r → does terms p r };
 
-    ghost does_said: { (p q r : Counts) → r.flash ≡ q.flash → r.disk ≡ q.disk → does p q → does p r };
+    ghost does_said: { (terms : Terms) (p q r : Counts) → r.flash ≡ q.flash → r.disk ≡ q.disk → does terms p q → does terms p r };
 
     /// And leaves what an answer leaves.
     ghost leaves_all: { (world : World) → leaves world world };

@@ -51,7 +51,7 @@ pub fn serve_lines<R: Rig, C: Cache<R>, S: Source>(
     ensures bounded { S.tells → OnOk result (EndsWithin (fuel reader.old) (dialect_in (C.terms cache.old)) (left reader.old (S.rest source.old))) }
     ensures halt { IfErr result (λ halt. Halts C.stops (Rose (S.failures source.old) (S.failures source.new))
         (S.tells → EndsWithin (fuel reader.old) (dialect_in (C.terms cache.old)) (left reader.old (S.rest source.old)) → ⊥) halt (R.counts rig.old) (R.counts rig.new)) }
-    ensures does { C.does (R.counts rig.old) (R.counts rig.new) }
+    ensures does { C.does (C.terms cache.old) (R.counts rig.old) (R.counts rig.new) }
     ensures leaves { R.tells → C.leaves (R.world rig.old) (R.world rig.new) }
     ensures same { C.terms cache.new ≡ C.terms cache.old }
     ensures frame { Frame (R.counts rig.old) (R.counts rig.new) (R.device_size rig.old) (R.device_size rig.new) }
@@ -110,7 +110,7 @@ fn answer_line<R: Rig, C: Cache<R>>(
         (Pays (C.costs cache.old cache.new) (R.counts rig.old) (R.counts rig.new)) halt c s (told block.old line) (R.world rig.old) (R.world rig.new)) }
     ensures ready { (n : ℕ) → C.ready cache.old (n + 1) (R.device_size rig.old) → OnOk result (C.ready cache.new n (R.device_size rig.new)) }
     ensures halt { IfErr result (λ halt. Halts C.stops ⊥ ⊥ halt (R.counts rig.old) (R.counts rig.new)) }
-    ensures does { C.does (R.counts rig.old) (R.counts rig.new) }
+    ensures does { C.does (C.terms cache.old) (R.counts rig.old) (R.counts rig.new) }
     ensures leaves { R.tells → C.leaves (R.world rig.old) (R.world rig.new) }
     ensures same { C.terms cache.new ≡ C.terms cache.old }
     ensures frame { Frame (R.counts rig.old) (R.counts rig.new) (R.device_size rig.old) (R.device_size rig.new) }
@@ -143,7 +143,7 @@ fn say_lists<R: Rig, C: Cache<R>>(cache: &C, rig: &mut R, text: &mut [u8]) -> Re
         (Pays (C.costs cache.now cache.now) (R.counts rig.old) (R.counts rig.new)) halt c s (Some lists) (R.world rig.old) (R.world rig.new)) }
     ensures ready { (n : ℕ) → C.ready cache.now (n + 1) (R.device_size rig.old) → OnOk result (C.ready cache.now n (R.device_size rig.new)) }
     ensures halt { IfErr result (λ halt. Halts C.stops ⊥ ⊥ halt (R.counts rig.old) (R.counts rig.new)) }
-    ensures does { C.does (R.counts rig.old) (R.counts rig.new) }
+    ensures does { C.does (C.terms cache.now) (R.counts rig.old) (R.counts rig.new) }
     ensures leaves { R.tells → C.leaves (R.world rig.old) (R.world rig.new) }
     ensures frame { Frame (R.counts rig.old) (R.counts rig.new) (R.device_size rig.old) (R.device_size rig.new) }
 {
@@ -175,7 +175,7 @@ fn say_answer<R: Rig, C: Cache<R>>(
         (Pays (C.costs cache.old cache.new) (R.counts rig.old) (R.counts rig.new)) halt c s (told block.old line) (R.world rig.old) (R.world rig.new)) }
     ensures ready { (n : ℕ) → C.ready cache.old (n + 1) (R.device_size rig.old) → OnOk result (C.ready cache.new n (R.device_size rig.new)) }
     ensures halt { IfErr result (λ halt. Halts C.stops ⊥ ⊥ halt (R.counts rig.old) (R.counts rig.new)) }
-    ensures does { C.does (R.counts rig.old) (R.counts rig.new) }
+    ensures does { C.does (C.terms cache.old) (R.counts rig.old) (R.counts rig.new) }
     ensures leaves { R.tells → C.leaves (R.world rig.old) (R.world rig.new) }
     ensures same { C.terms cache.new ≡ C.terms cache.old }
     ensures frame { Frame (R.counts rig.old) (R.counts rig.new) (R.device_size rig.old) (R.device_size rig.new) }

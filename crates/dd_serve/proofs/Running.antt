@@ -1,14 +1,15 @@
 -- What a run promises, by what was asked.
-use Rattle.std.proofs.Common.{◌≡◌, ◌≢◌, inl, inr, refl, ℕ, zero, suc, Bool, true, false, List, Some, None, subst, arith, if◌then◌else◌}
+use Rattle.std.proofs.Common.{◌≡◌, ◌≢◌, inl, inr, refl, ℕ, zero, suc, Bool, true, false, List, Some, None, ap, subst, arith, if◌then◌else◌}
 use Rattle.std.specs.Prelude.{Option, nat_lt}
 use Rattle.std.proofs.lemmas.Bool.{le-ltb}
 use Rattle.dd_block.specs.declared.print.Fp.{Fp}
 use Rattle.dd_block.specs.declared.geometry.Geometry.{Geometry}
 use Rattle.dd_rig.specs.declared.device.Dev.{Dev}
 use Rattle.dd_rig.specs.declared.device.Dev.TheVariants.{Flash, Disk}
+use Rattle.dd_rig.specs.declared.tallies.Calls.{Calls}
 use Rattle.dd_rig.specs.declared.tallies.Counts.{Counts}
 use Rattle.dd_rig.specs.Clock.{Clock, Elapses}
-use Rattle.dd_rig.specs.Counts.{IsQuiet, IsStill, Rose}
+use Rattle.dd_rig.specs.Counts.{IsQuiet, IsStill, Makes, Quota, Rose}
 use Rattle.dd_rig.specs.World.{IsOwn, World, shown}
 use Rattle.dd_rig.proofs.Moments.{widens}
 use Rattle.dd_script.specs.declared.reply.Refusal.{Refusal}
@@ -22,13 +23,14 @@ use Rattle.dd_serve.specs.Calls.{looked}
 use Rattle.dd_serve.specs.Formats.{FormatEndsFor, FormatStops, IsFormatStatus}
 use Rattle.dd_serve.specs.Refusing.{Refuses, refusal_for, small_for}
 use Rattle.dd_serve.specs.Replays.{IsReplayStatus, ReplayEndsFor, ReplayStops, Replays}
-use Rattle.dd_serve.specs.Run.{RefusesWords, EndsFor, IsCaused, EndsWell, Leaves}
+use Rattle.dd_serve.specs.Run.{RefusesWords, EndsFor, IsCaused, Does, EndsWell, Leaves}
 use Rattle.dd_loop.specs.declared.ending.Ending.{Ending}
 use Rattle.dd_loop.specs.declared.ending.Ending.TheVariants.{Served, Refused, Stopped, Unheard}
 use Rattle.dd_loop.specs.Ending.{refused_status, status_of}
 use Rattle.dd_loop.specs.Saying.{IsIdle, SaysAlone}
 use Rattle.dd_serve.specs.Words.{AsksFor, AsksNothing}
 use Rattle.dd_serve.proofs.Quiet.{quiet_status, quiet_format, replay_failed}
+use Rattle.dd_serve.proofs.Written.{only_first}
 
 -- words that ask for nothing
 pub words_refused : (words : List (List ℕ)) (status : ℕ) (tells untaken : Type 0) (before after : Counts) (old new : World) → AsksNothing words → status ≡ 2
@@ -129,3 +131,16 @@ small_caused asked why status Says untaken tells size script before after m n sm
     by_asked (Format geo) small = tt
     by_asked Serve small = absurd (none_small (size Flash) (size Disk) why _ _ small)
     by_asked (Gen load) small = tt
+
+makes_idle : (flash disk : Quota) (before after : Counts) → IsIdle before after → Makes flash disk before after
+makes_idle flash disk before after idle = (
+  (omega (arith, ap (λ (k : Calls). k.reads) idle.0), omega (arith, ap (λ (k : Calls). k.writes) idle.0), omega (arith, ap (λ (k : Calls). k.written) idle.0)),
+  (omega (arith, ap (λ (k : Calls). k.reads) idle.1), omega (arith, ap (λ (k : Calls). k.writes) idle.1), omega (arith, ap (λ (k : Calls). k.written) idle.1)),
+)
+
+-- and what it calls
+pub small_calls : (asked : Asked) (status : ℕ) (before after : Counts) → IsIdle before after → Does asked status before after
+small_calls (Replay plan) status before after idle = (only_first plan.block before after idle, λ unbegun. makes_idle _ _ before after idle)
+small_calls (Format geo) status before after idle = (makes_idle _ _ before after idle, λ unbegun. makes_idle _ _ before after idle)
+small_calls Serve status before after idle = λ unbegun. makes_idle _ _ before after idle
+small_calls (Gen load) status before after idle = λ unbegun. makes_idle _ _ before after idle

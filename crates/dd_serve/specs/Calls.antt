@@ -1,6 +1,7 @@
 -- How often a replay asks its devices.
-use Rattle.std.specs.Prelude.{◌≤◌, ℕ, ◌+◌, ◌*◌, List, [], ◌∷◌, cond, nat_le}
+use Rattle.std.specs.Prelude.{◌≡◌, ◌≤◌, ◌<◌, ◌-◌, ◌^◌, ℕ, ◌+◌, ◌*◌, List, [], ◌∷◌, cond, nat_le}
 use Rattle.dd_rig.specs.declared.device.Dev.TheVariants as dev
+use Rattle.dd_rig.specs.declared.tallies.Calls.{Calls}
 use Rattle.dd_rig.specs.declared.tallies.Counts.{Counts}
 use Rattle.dd_rig.specs.Counts.{Quota, Makes, plus, up_to}
 use Rattle.dd_model.specs.State.{Sizes, is_zero_block}
@@ -71,6 +72,18 @@ AsksForLines sizes lines more before after =
 -- the calls for one line
 abbrev pub AsksForLine : Sizes → List ℕ → Counts → Counts → Type 0
 AsksForLine sizes line before after = AsksFor sizes.block sizes.bcap (hits_in (line ∷ [])) (looks_in (line ∷ [])) (misses_in (line ∷ [])) before after
+
+-- While neither count stands at its last value, as many bytes were written as there were writes and syncs, times the block. So each write
+-- has a block, and no sync was made, as it writes no bytes.
+pub record WritesBlocks (block : ℕ) (before after : Calls) : Type 0 where
+  pub writes : before.writes ≤ after.writes
+  pub written : before.written ≤ after.written
+  pub bytes : after.writes < 2 ^ 64 - 1 → after.written < 2 ^ 64 - 1 → after.written + block * before.writes ≡ before.written + block * after.writes
+
+-- the flash was written in blocks alone, and the disk neither written nor synced
+pub record OnlyBlocks (block : ℕ) (before after : Counts) : Type 0 where
+  pub flash : WritesBlocks block before.flash after.flash
+  pub disk : after.disk.writes ≡ before.disk.writes
 
 -- behind the look at byte 0
 abbrev pub looked : Counts → Counts

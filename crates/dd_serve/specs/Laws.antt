@@ -18,7 +18,7 @@ use Rattle.dd_script.specs.Text.{fault_text, lists_text}
 use Rattle.dd_loop.specs.Saying.{IsIdle}
 use Rattle.dd_loop.specs.Standing.{AllStand}
 use Rattle.dd_serve.specs.Answering.{MayAnswer, HoldsState, StaysBy, CostsLines}
-use Rattle.dd_serve.specs.Calls.{AsksForLines, looks_in}
+use Rattle.dd_serve.specs.Calls.{AsksForLines, OnlyBlocks, WritesBlocks, looks_in}
 use Rattle.dd_serve.specs.Scratch.{ScratchView, Scratched, KeepsImages, scratch_sizes}
 
 -- lines, and further ones
@@ -130,6 +130,29 @@ costs_cut one two line p q h = record { same = h.same; asks = asks_cut (scratch_
 
 pub costs_begun : (one two : ScratchView) (lines : List (List ℕ)) (p q : Counts) → CostsLines one two lines 0 p q → CostsLines one two lines 1 p q
 costs_begun one two lines p q h = record { same = h.same; asks = asks_weaker (scratch_sizes one) lines p q h.asks }
+
+-- no call writes nothing, and calls behind others write in blocks where both do
+pub only_none : (block : ℕ) (counts : Counts) → OnlyBlocks block counts counts
+only_none block counts = record { flash = record { writes = omega arith; written = omega arith; bytes = λ few short. refl }; disk = refl }
+
+pub only_both : (block : ℕ) (p q r : Counts) → OnlyBlocks block p q → OnlyBlocks block q r → OnlyBlocks block p r
+only_both block p q r h k = record {
+  flash = record {
+    writes = omega (arith, h.flash.writes, k.flash.writes);
+    written = omega (arith, h.flash.written, k.flash.written);
+    bytes = λ few short.
+        let first = h.flash.bytes (omega (arith, few, k.flash.writes)) (omega (arith, short, k.flash.written)) in
+        let second = k.flash.bytes few short in
+        omega (arith, first, second);
+  };
+  disk = k.disk ∙ h.disk;
+}
+
+pub only_said : (block : ℕ) (p q r : Counts) → r.flash ≡ q.flash → r.disk ≡ q.disk → OnlyBlocks block p q → OnlyBlocks block p r
+only_said block p q r flash disk h = record {
+  flash = subst (λ (k : Calls). WritesBlocks block p.flash k) (sym flash) h.flash;
+  disk = ap (λ (k : Calls). k.writes) disk ∙ h.disk;
+}
 
 pub answers_fewer : (scratch : ScratchView) (other n m : ℕ) (size : Dev → ℕ) → m ≤ n → MayAnswer scratch other n size → MayAnswer scratch other m size
 answers_fewer scratch other n m size le h = record { fits = h.fits; count = omega (arith, h.count, le); room = h.room }

@@ -13,7 +13,7 @@ ghost use Rattle.dd_model.specs.Orphans.{orphans_of, orphaned_addresses, orphane
 ghost use Rattle.dd_loop.specs.Answering.{Pays, WritesAnswer, WritesLine};
 ghost use Rattle.dd_loop.specs.Halting.{HaltsByDevice};
 ghost use Rattle.dd_serve.specs.Answering.{HoldsState, CostsLines, IsFlash};
-ghost use Rattle.dd_serve.specs.Calls.{AsksFor};
+ghost use Rattle.dd_serve.specs.Calls.{AsksFor, OnlyBlocks};
 ghost use Rattle.dd_serve.specs.Scratch.{Fits, IsSound, OnlyFlash, IsWithin, scratch_sizes, scratch_state};
 
 use crate::blocks::ScratchFault;
@@ -51,7 +51,7 @@ pub fn write_answer<L: Lists, F: Fingerprint, R: Rig>(
     ensures others { R.tells → OnlyFlash (R.world rig.old) (R.world rig.new) }
     ensures begun { IfErr result (λ halt. AsksFor (scratch_sizes scratch.old).block (scratch_sizes scratch.old).bcap 0 1 1 (R.counts rig.old) (R.counts rig.new)) }
     ensures time { R.tells → Elapses (R.clock rig.old) (R.clock rig.new) (IsWithin (R.world rig.old)) }
-    ensures untouched { (R.counts rig.new).disk.writes ≡ (R.counts rig.old).disk.writes }
+    ensures blocks { OnlyBlocks (scratch_sizes scratch.old).block (R.counts rig.old) (R.counts rig.new) }
     ensures frame { Frame (R.counts rig.old) (R.counts rig.new) (R.device_size rig.old) (R.device_size rig.new) }
     ensures cause { IfErr result (λ halt. HaltsByDevice IsFlash halt (R.counts rig.old) (R.counts rig.new)) }
 {
@@ -116,7 +116,7 @@ fn write_read<L: Lists, F: Fingerprint, R: Rig>(
     ensures others { R.tells → OnlyFlash (R.world rig.old) (R.world rig.new) }
     ensures begun { IfErr result (λ halt. AsksFor (scratch_sizes scratch.old).block (scratch_sizes scratch.old).bcap 0 1 1 (R.counts rig.old) (R.counts rig.new)) }
     ensures time { R.tells → Elapses (R.clock rig.old) (R.clock rig.new) (IsWithin (R.world rig.old)) }
-    ensures untouched { (R.counts rig.new).disk.writes ≡ (R.counts rig.old).disk.writes }
+    ensures blocks { OnlyBlocks (scratch_sizes scratch.old).block (R.counts rig.old) (R.counts rig.new) }
     ensures frame { Frame (R.counts rig.old) (R.counts rig.new) (R.device_size rig.old) (R.device_size rig.new) }
     ensures cause { IfErr result (λ halt. HaltsByDevice IsFlash halt (R.counts rig.old) (R.counts rig.new)) }
 {

@@ -1,5 +1,5 @@
 // Blocks of both devices: in the slots of the flash, and at the addresses of the disk.
-ghost use Rattle.std.specs.Prelude.{◌≡◌, ◌+◌, ◌*◌, ◌<◌, ◌≤◌, length, Some, IfOk, OnOk, IfErr, IfSome};
+ghost use Rattle.std.specs.Prelude.{◌≡◌, ◌+◌, ◌*◌, ◌<◌, ◌≤◌, ℕ, length, Some, IfOk, OnOk, IfErr, IfSome};
 ghost use Rattle.dd_rig.specs.Clock.{Elapses};
 ghost use Rattle.dd_rig.specs.Counts.{Frame, nothing, up_to};
 ghost use Rattle.dd_rig.specs.declared.device.Dev.TheVariants.{Flash as FlashDevice, Disk as DiskDevice};
@@ -8,7 +8,7 @@ ghost use Rattle.dd_slots.specs.declared.usage.Usage.TheVariants.{Used};
 ghost use Rattle.dd_slots.specs.Slots.{count_of, use_of, saved};
 ghost use Rattle.dd_model.specs.Confirming.{IsCandidate, Confirms};
 ghost use Rattle.dd_serve.specs.declared.blocks.ScratchFault.TheVariants.{FlashWrite};
-ghost use Rattle.dd_serve.specs.Calls.{Asks};
+ghost use Rattle.dd_serve.specs.Calls.{Asks, OnlyBlocks};
 ghost use Rattle.dd_serve.specs.Causes.{Faulted, LeavesWorld};
 ghost use Rattle.dd_serve.specs.Scratch.{FitsFlash, OnlyFlash, IsWithin, held_in, block_of};
 
@@ -38,7 +38,7 @@ pub fn load<R: Rig>(
     ensures bytes { R.tells → OnOk result (into.new ≡ held_in slots.now (R.world rig.old) slot) }
     ensures world { R.tells → R.world rig.new ≡ R.world rig.old }
     ensures time { R.tells → Elapses (R.clock rig.old) (R.clock rig.new) (IsWithin (R.world rig.old)) }
-    ensures untouched { (R.counts rig.new).disk.writes ≡ (R.counts rig.old).disk.writes }
+    ensures blocks { OnlyBlocks slots.now.block (R.counts rig.old) (R.counts rig.new) }
     ensures frame { Frame (R.counts rig.old) (R.counts rig.new) (R.device_size rig.old) (R.device_size rig.new) }
     ensures asks { Asks 1 (up_to 1 0 0) nothing (R.counts rig.old) (R.counts rig.new) }
     ensures cause { IfErr result (λ fault. Faulted fault (R.counts rig.old) (R.counts rig.new)) }
@@ -57,7 +57,7 @@ pub fn save<R: Rig>(rig: &mut R, slots: &Slots, slot: u32, from: &[u8]) -> Resul
     ensures world { R.tells → OnOk result (R.world rig.new ≡ saved slots.now slot from.now (R.world rig.old)) }
     ensures others { R.tells → OnlyFlash (R.world rig.old) (R.world rig.new) }
     ensures time { R.tells → Elapses (R.clock rig.old) (R.clock rig.new) (IsWithin (R.world rig.old)) }
-    ensures untouched { (R.counts rig.new).disk.writes ≡ (R.counts rig.old).disk.writes }
+    ensures blocks { OnlyBlocks slots.now.block (R.counts rig.old) (R.counts rig.new) }
     ensures frame { Frame (R.counts rig.old) (R.counts rig.new) (R.device_size rig.old) (R.device_size rig.new) }
     ensures asks { Asks 0 (up_to 0 1 slots.now.block) nothing (R.counts rig.old) (R.counts rig.new) }
     ensures cause { IfErr result (λ fault. Faulted fault (R.counts rig.old) (R.counts rig.new)) }
@@ -73,7 +73,7 @@ pub fn fetch<R: Rig>(rig: &mut R, address: u32, into: &mut [u8]) -> Result<(), S
     ensures bytes { R.tells → OnOk result (into.new ≡ block_of (length into.old) (R.world rig.old) address) }
     ensures world { R.tells → R.world rig.new ≡ R.world rig.old }
     ensures time { R.tells → Elapses (R.clock rig.old) (R.clock rig.new) (IsWithin (R.world rig.old)) }
-    ensures untouched { (R.counts rig.new).disk.writes ≡ (R.counts rig.old).disk.writes }
+    ensures blocks { (block : ℕ) → OnlyBlocks block (R.counts rig.old) (R.counts rig.new) }
     ensures frame { Frame (R.counts rig.old) (R.counts rig.new) (R.device_size rig.old) (R.device_size rig.new) }
     ensures asks { Asks 0 nothing (up_to 1 0 0) (R.counts rig.old) (R.counts rig.new) }
     ensures cause { IfErr result (λ fault. Faulted fault (R.counts rig.old) (R.counts rig.new)) }
@@ -101,7 +101,7 @@ pub fn find<L: Lists, R: Rig>(
     ensures found { R.tells → IfOk result (Confirms fp block.now slots.now (shown FlashDevice (R.world rig.old)) (L.listing lists.now).table.b) }
     ensures world { R.tells → R.world rig.new ≡ R.world rig.old }
     ensures time { R.tells → Elapses (R.clock rig.old) (R.clock rig.new) (IsWithin (R.world rig.old)) }
-    ensures untouched { (R.counts rig.new).disk.writes ≡ (R.counts rig.old).disk.writes }
+    ensures blocks { OnlyBlocks slots.now.block (R.counts rig.old) (R.counts rig.new) }
     ensures frame { Frame (R.counts rig.old) (R.counts rig.new) (R.device_size rig.old) (R.device_size rig.new) }
     ensures asks { Asks 0 (up_to (L.listing lists.now).bcap 0 0) nothing (R.counts rig.old) (R.counts rig.new) }
     ensures cause { IfErr result (λ fault. Faulted fault (R.counts rig.old) (R.counts rig.new)) }

@@ -25,9 +25,9 @@ pub struct ScratchCache<F: Fingerprint, L: Lists> {
 impl<F: Fingerprint, L: Lists, R: Rig> Cache<R> for ScratchCache<F, L> {
     ghost use Rattle.std.specs.Prelude.{vec_len};
     ghost use Rattle.dd_serve.specs.Answering.{MayAnswer, HoldsState, StaysBy, CostsLines, IsFlash, scratch_terms};
+    ghost use Rattle.dd_serve.specs.Calls.{OnlyBlocks};
     ghost use Rattle.dd_serve.specs.Scratch.{Scratched};
-    ghost use Rattle.dd_serve.specs.Laws.{answers_fewer, costs_none, costs_lists, costs_both, costs_idle, costs_cut, costs_begun, holds_stood, holds_unsaid, scratched_self, scratched_both, scratched_said};
-    ghost use Rattle.std.proofs.Common.{refl, ap, ◌∙◌};
+    ghost use Rattle.dd_serve.specs.Laws.{answers_fewer, costs_none, costs_lists, costs_both, costs_idle, costs_cut, costs_begun, holds_stood, holds_unsaid, only_none, only_both, only_said, scratched_self, scratched_both, scratched_said};
 
     ghost terms = { λ c. scratch_terms (F.printed c.print) c.scratch };
 
@@ -39,7 +39,7 @@ impl<F: Fingerprint, L: Lists, R: Rig> Cache<R> for ScratchCache<F, L> {
 
     ghost costs = { λ old new lines more before after. CostsLines old.scratch new.scratch lines more before after };
 
-    ghost does = { λ before after. after.disk.writes ≡ before.disk.writes };
+    ghost does = { λ terms before after. OnlyBlocks terms.sizes.block before after };
 
     ghost leaves = { λ old new. Scratched old new };
 
@@ -93,11 +93,11 @@ impl<F: Fingerprint, L: Lists, R: Rig> Cache<R> for ScratchCache<F, L> {
 
     ghost begun = { λ one two lines p q h. costs_begun one.scratch two.scratch lines p q h };
 
-    ghost does_none = { λ counts. refl };
+    ghost does_none = { λ terms counts. only_none terms.sizes.block counts };
 
-    ghost does_both = { λ p q r h k. k ∙ h };
+    ghost does_both = { λ terms p q r h k. only_both terms.sizes.block p q r h k };
 
-    ghost does_said = { λ p q r flash disk h. ap (λ d. d.writes) disk ∙ h };
+    ghost does_said = { λ terms p q r flash disk h. only_said terms.sizes.block p q r flash disk h };
 
     ghost leaves_all = { λ world. scratched_self world };
 

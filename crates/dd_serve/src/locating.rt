@@ -12,7 +12,7 @@ ghost use Rattle.dd_record.specs.declared.row.Link.TheVariants.{Lost};
 ghost use Rattle.dd_model.specs.Listing.{IsGiven};
 ghost use Rattle.dd_model.specs.State.{is_zero_block};
 ghost use Rattle.dd_serve.specs.declared.blocks.ScratchFault.TheVariants.{FlashWrite};
-ghost use Rattle.dd_serve.specs.Calls.{Asks, AsksFor, slots_at, looks_for, writes_for, writes_until};
+ghost use Rattle.dd_serve.specs.Calls.{Asks, AsksFor, OnlyBlocks, slots_at, looks_for, writes_for, writes_until};
 ghost use Rattle.dd_serve.specs.Causes.{Faulted, LeavesWorld};
 ghost use Rattle.dd_serve.specs.Scratch.{FitsSlots, FitsFlash, Found, Located, IsSound, OnlyFlash, IsWithin, placed, scratch_of};
 
@@ -47,7 +47,7 @@ pub fn locate<L: Lists, F: Fingerprint, R: Rig>(
     ensures others { R.tells → OnlyFlash (R.world rig.old) (R.world rig.new) }
     ensures unread { R.tells → IfErr result (λ fault. LeavesWorld fault (R.world rig.old) (R.world rig.new)) }
     ensures time { R.tells → Elapses (R.clock rig.old) (R.clock rig.new) (IsWithin (R.world rig.old)) }
-    ensures untouched { (R.counts rig.new).disk.writes ≡ (R.counts rig.old).disk.writes }
+    ensures blocks { OnlyBlocks slots.old.block (R.counts rig.old) (R.counts rig.new) }
     ensures frame { Frame (R.counts rig.old) (R.counts rig.new) (R.device_size rig.old) (R.device_size rig.new) }
     ensures asks { IfErr result (λ fault. AsksFor slots.old.block (L.listing lists.now).bcap 0 1 (writes_until fault) (R.counts rig.old) (R.counts rig.new)) }
     ensures asks_for { IfOk result (λ found. AsksFor slots.old.block (L.listing lists.now).bcap (slots_at found.0 found.1) (looks_for found.0) (writes_for found.0) (R.counts rig.old) (R.counts rig.new)) }
@@ -105,7 +105,7 @@ fn place<L: Lists, F: Fingerprint, R: Rig>(
     ensures others { R.tells → OnlyFlash (R.world rig.old) (R.world rig.new) }
     ensures unread { R.tells → IfErr result (λ fault. LeavesWorld fault (R.world rig.old) (R.world rig.new)) }
     ensures time { R.tells → Elapses (R.clock rig.old) (R.clock rig.new) (IsWithin (R.world rig.old)) }
-    ensures untouched { (R.counts rig.new).disk.writes ≡ (R.counts rig.old).disk.writes }
+    ensures blocks { OnlyBlocks slots.old.block (R.counts rig.old) (R.counts rig.new) }
     ensures frame { Frame (R.counts rig.old) (R.counts rig.new) (R.device_size rig.old) (R.device_size rig.new) }
     ensures asks { IfErr result (λ fault. AsksFor slots.old.block (L.listing lists.now).bcap 0 1 (writes_until fault) (R.counts rig.old) (R.counts rig.new)) }
     ensures asks_for { IfOk result (λ found. AsksFor slots.old.block (L.listing lists.now).bcap (slots_at found.0 found.1) (looks_for found.0) (writes_for found.0) (R.counts rig.old) (R.counts rig.new)) }
@@ -147,7 +147,7 @@ fn find_or_save<L: Lists, R: Rig>(
     ensures others { R.tells → OnlyFlash (R.world rig.old) (R.world rig.new) }
     ensures unread { R.tells → IfErr result (λ fault. LeavesWorld fault (R.world rig.old) (R.world rig.new)) }
     ensures time { R.tells → Elapses (R.clock rig.old) (R.clock rig.new) (IsWithin (R.world rig.old)) }
-    ensures untouched { (R.counts rig.new).disk.writes ≡ (R.counts rig.old).disk.writes }
+    ensures blocks { OnlyBlocks slots.old.block (R.counts rig.old) (R.counts rig.new) }
     ensures frame { Frame (R.counts rig.old) (R.counts rig.new) (R.device_size rig.old) (R.device_size rig.new) }
     ensures asks { IfErr result (λ fault. Asks 0 (up_to (L.listing lists.now).bcap (writes_until fault) (slots.old.block * writes_until fault)) nothing (R.counts rig.old) (R.counts rig.new)) }
     ensures asks_for { IfOk result (λ found. (slots_at found.0 found.1 ≡ 0) × (looks_for found.0 ≡ 1)
@@ -177,7 +177,7 @@ fn save_new<R: Rig>(rig: &mut R, slots: &mut Slots, block: &[u8]) -> Result<u32,
     ensures world { R.tells → IfOk result (λ slot. R.world rig.new ≡ saved slots.old slot block.now (R.world rig.old)) }
     ensures others { R.tells → OnlyFlash (R.world rig.old) (R.world rig.new) }
     ensures time { R.tells → Elapses (R.clock rig.old) (R.clock rig.new) (IsWithin (R.world rig.old)) }
-    ensures untouched { (R.counts rig.new).disk.writes ≡ (R.counts rig.old).disk.writes }
+    ensures blocks { OnlyBlocks slots.old.block (R.counts rig.old) (R.counts rig.new) }
     ensures frame { Frame (R.counts rig.old) (R.counts rig.new) (R.device_size rig.old) (R.device_size rig.new) }
     ensures asks { Asks 0 (up_to 0 1 slots.old.block) nothing (R.counts rig.old) (R.counts rig.new) }
     ensures cause { IfErr result (λ fault. Faulted fault (R.counts rig.old) (R.counts rig.new)) }

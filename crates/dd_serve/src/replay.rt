@@ -10,7 +10,7 @@ ghost use Rattle.dd_serve.specs.declared.words.Asked.TheVariants.{Replay};
 ghost use Rattle.dd_loop.specs.Halting.{Halts};
 ghost use Rattle.dd_serve.specs.Words.{IsPlan};
 ghost use Rattle.dd_rig.specs.Clock.{AddsNone, Elapses};
-ghost use Rattle.dd_serve.specs.Calls.{looked};
+ghost use Rattle.dd_serve.specs.Calls.{OnlyBlocks, looked};
 ghost use Rattle.dd_serve.specs.Scratch.{Scratched, KeepsDevices};
 ghost use Rattle.dd_loop.specs.Saying.{IsIdle, SaysAlone};
 ghost use Rattle.dd_serve.specs.Refusing.{Refuses, small_for, refusal_for};
@@ -54,7 +54,7 @@ pub fn run_replay<F: Fingerprint, R: Rig, S: Source>(
     ensures untaken { (result ≡ 3) ⊎ (result ≡ 4) → source.new ≡ source.old }
     ensures others { R.tells → Scratched (R.world rig.old) (R.world rig.new) }
     ensures time { R.tells → Elapses (R.clock rig.old) (R.clock rig.new) (KeepsDevices (R.world rig.old)) }
-    ensures untouched { (R.counts rig.new).disk.writes ≡ (R.counts rig.old).disk.writes }
+    ensures blocks { OnlyBlocks plan.block (R.counts rig.old) (R.counts rig.new) }
     ensures looks { (result ≡ 3) ⊎ (result ≡ 4) → Makes (up_to 1 0 0) nothing (R.counts rig.old) (R.counts rig.new) }
 {
     match is_in_use(rig) {
@@ -97,7 +97,7 @@ fn serve_plan<F: Fingerprint, R: Rig, S: Source>(
     ensures served { R.tells → S.tells → Replays (F.printed print) plan (R.device_size rig.old DiskDevice) result (S.rest source.old) (R.world rig.old) (R.world rig.new) (R.counts rig.old) (R.counts rig.new) }
     ensures others { R.tells → Scratched (R.world rig.old) (R.world rig.new) }
     ensures time { R.tells → Elapses (R.clock rig.old) (R.clock rig.new) (KeepsDevices (R.world rig.old)) }
-    ensures untouched { (R.counts rig.new).disk.writes ≡ (R.counts rig.old).disk.writes }
+    ensures blocks { OnlyBlocks plan.block (R.counts rig.old) (R.counts rig.new) }
     ensures taken { S.tells → result ≤ 1 → IsTakenTo (replay_dialect plan (R.device_size rig.old DiskDevice)) (S.rest source.old) (S.rest source.new) }
     ensures untaken { result ≡ 4 → source.new ≡ source.old }
     ensures idle { result ≡ 4 → IsIdle (R.counts rig.old) (R.counts rig.new) }
@@ -123,6 +123,7 @@ fn start<L: Lists, R: Rig>(alloc: Global, plan: Plan, rig: &R) -> Result<Scratch
     let count = rig.size(Dev::Disk) / u64::from(plan.block);
     let blocks = if count < MOST_BLOCKS {
         count as u32
+#[tactic(auto, using(crate::proofs::Written::written_steps))]
     } else {
         MOST_BLOCKS as u32
     };
@@ -148,7 +149,7 @@ fn serve_script<L: Lists, F: Fingerprint, R: Rig, S: Source>(
     ensures early_counts { OnErr result (R.counts rig.new ≡ R.counts rig.old) }
     ensures others { R.tells → Scratched (R.world rig.old) (R.world rig.new) }
     ensures time { R.tells → Elapses (R.clock rig.old) (R.clock rig.new) (KeepsDevices (R.world rig.old)) }
-    ensures untouched { (R.counts rig.new).disk.writes ≡ (R.counts rig.old).disk.writes }
+    ensures blocks { OnlyBlocks plan.block (R.counts rig.old) (R.counts rig.new) }
     ensures later { NeverFalls (R.counts rig.old) (R.counts rig.new) }
     ensures halt { IfOk result (λ served. IfErr served (λ halt. Halts IsFlash (Rose (S.failures source.old) (S.failures source.new)) (S.tells → IsBounded plan (R.device_size rig.old DiskDevice) (S.rest source.old) → ⊥) halt
         (R.counts rig.old) (R.counts rig.new))) }

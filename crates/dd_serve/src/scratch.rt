@@ -10,7 +10,7 @@ ghost use Rattle.dd_block.specs.declared.print.Fp.{Fp};
 ghost use Rattle.dd_rig.specs.World.{World};
 ghost use Rattle.dd_model.specs.Orphans.{orphans_of, orphaned_addresses, orphaned_blocks};
 ghost use Rattle.dd_model.specs.State.{content};
-ghost use Rattle.dd_serve.specs.Calls.{AsksFor, slots_for, looks_for, writes_for, writes_until};
+ghost use Rattle.dd_serve.specs.Calls.{AsksFor, OnlyBlocks, slots_for, looks_for, writes_for, writes_until};
 ghost use Rattle.dd_serve.specs.Causes.{Faulted, LeavesWorld};
 ghost use Rattle.dd_serve.specs.Scratch.{Fits, IsSound, OnlyFlash, IsWithin, scratch_state, scratch_sizes, read_of, slots_after};
 
@@ -124,7 +124,7 @@ impl<L: Lists> Scratch<L> {
         ensures others { R.tells → OnlyFlash (R.world rig.old) (R.world rig.new) }
         ensures unread { R.tells → IfErr result (λ fault. LeavesWorld fault (R.world rig.old) (R.world rig.new)) }
         ensures time { R.tells → Elapses (R.clock rig.old) (R.clock rig.new) (IsWithin (R.world rig.old)) }
-        ensures untouched { (R.counts rig.new).disk.writes ≡ (R.counts rig.old).disk.writes }
+        ensures blocks { OnlyBlocks self.old.slots.block (R.counts rig.old) (R.counts rig.new) }
         ensures frame { Frame (R.counts rig.old) (R.counts rig.new) (R.device_size rig.old) (R.device_size rig.new) }
         ensures asks { IfErr result (λ fault. AsksFor self.old.slots.block self.old.lists.bcap 0 1 (writes_until fault) (R.counts rig.old) (R.counts rig.new)) }
         ensures asks_for { R.tells → IsSound (F.printed print.now) self.old (R.world rig.old) → IfOk result (λ done. AsksFor self.old.slots.block self.old.lists.bcap (slots_for done.kind block.new) (looks_for done.kind) (writes_for done.kind) (R.counts rig.old) (R.counts rig.new)) }

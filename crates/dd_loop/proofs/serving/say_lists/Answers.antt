@@ -61,13 +61,15 @@ returns-clause-answer g c = λ t first one s kept.
 
 pub returns-in_err-list-clause-does : goal.returns-in_err-list-clause-does
 returns-in_err-list-clause-does g c =
+    let terms : Terms = g.C.Cache.terms c.args.cache.now in
     let before : Counts = g.R.Rig.counts c.args.rig.now in
-    g.met.C.Cache.does_said before before (g.R.Rig.counts c.list.new.rig) c.list.ensures.idle.0 c.list.ensures.idle.1 (g.met.C.Cache.does_none before)
+    g.met.C.Cache.does_said terms before before (g.R.Rig.counts c.list.new.rig) c.list.ensures.idle.0 c.list.ensures.idle.1 (g.met.C.Cache.does_none terms before)
 
 pub returns-clause-does : goal.returns-clause-does
 returns-clause-does g c =
+    let terms : Terms = g.C.Cache.terms c.args.cache.now in
     let before : Counts = g.R.Rig.counts c.args.rig.now in
-    g.met.C.Cache.does_said before before (g.R.Rig.counts c.list.new.rig) c.list.ensures.idle.0 c.list.ensures.idle.1 (g.met.C.Cache.does_none before)
+    g.met.C.Cache.does_said terms before before (g.R.Rig.counts c.list.new.rig) c.list.ensures.idle.0 c.list.ensures.idle.1 (g.met.C.Cache.does_none terms before)
 
 pub returns-in_err-list-clause-leaves : goal.returns-in_err-list-clause-leaves
 returns-in_err-list-clause-leaves g c = λ t.

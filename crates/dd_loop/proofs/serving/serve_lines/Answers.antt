@@ -43,7 +43,7 @@ lines-init g c = record {
   ready = c.requires.ready;
   falls = falls_self (g.R.Rig.counts c.args.rig.now);
   size = refl;
-  does = g.met.C.Cache.does_none (g.R.Rig.counts c.args.rig.now);
+  does = g.met.C.Cache.does_none (g.C.Cache.terms c.args.cache.now) (g.R.Rig.counts c.args.rig.now);
   leaves = λ t. g.met.C.Cache.leaves_all (g.R.Rig.world c.args.rig.now);
   later = omega arith;
   bounds = λ u h. h;
@@ -273,7 +273,7 @@ lines-preserved g c =
           (g.met.C.Cache.fewer c.lines.cache (fuel c.lines.reader + 1) (fuel c.next.new.self + 1 + 1) (g.R.Rig.device_size c.lines.rig) (omega (arith, burns)) c.lines.invariant.ready);
       falls = falls_trans _ _ _ c.lines.invariant.falls c.answer_line.ensures.frame.0;
       size = c.answer_line.ensures.frame.1 ∙ c.lines.invariant.size;
-      does = g.met.C.Cache.does_both _ _ _ c.lines.invariant.does c.answer_line.ensures.does;
+      does = g.met.C.Cache.does_both (g.C.Cache.terms c.args.cache.now) _ _ _ c.lines.invariant.does (subst (λ (x : Terms). g.C.Cache.does x (g.R.Rig.counts c.lines.rig) (g.R.Rig.counts c.answer_line.new.rig)) c.lines.invariant.same c.answer_line.ensures.does);
       leaves = λ t. g.met.C.Cache.leaves_both _ _ _ (c.lines.invariant.leaves t) (c.answer_line.ensures.leaves t);
       later = omega (arith, c.lines.invariant.later, c.next.ensures.later);
       bounds = λ u h. c.lines.invariant.bounds u ((bounds u).1 h);
@@ -292,13 +292,13 @@ returns-then-is_quit-clause-taken g c = λ u.
     (passes_for c.dialect-dialect.result dialect c.in-Ok.line now next c.dialect-dialect.ensures.dialect (c.in-Ok.ensures.passes u)) c.in-Ok.ensures.piece
 
 pub returns-in_err-failed-clause-does : goal.returns-in_err-failed-clause-does
-returns-in_err-failed-clause-does g c = g.met.C.Cache.does_both _ _ _ c.lines.invariant.does c.answer_line.ensures.does
+returns-in_err-failed-clause-does g c = g.met.C.Cache.does_both (g.C.Cache.terms c.args.cache.now) _ _ _ c.lines.invariant.does (subst (λ (x : Terms). g.C.Cache.does x (g.R.Rig.counts c.lines.rig) (g.R.Rig.counts c.answer_line.new.rig)) c.lines.invariant.same c.answer_line.ensures.does)
 
 pub returns-in_err-failed-clause-leaves : goal.returns-in_err-failed-clause-leaves
 returns-in_err-failed-clause-leaves g c = λ t. g.met.C.Cache.leaves_both _ _ _ (c.lines.invariant.leaves t) (c.answer_line.ensures.leaves t)
 
 pub returns-then-is_quit-clause-does : goal.returns-then-is_quit-clause-does
-returns-then-is_quit-clause-does g c = g.met.C.Cache.does_both _ _ _ c.lines.invariant.does c.answer_line.ensures.does
+returns-then-is_quit-clause-does g c = g.met.C.Cache.does_both (g.C.Cache.terms c.args.cache.now) _ _ _ c.lines.invariant.does (subst (λ (x : Terms). g.C.Cache.does x (g.R.Rig.counts c.lines.rig) (g.R.Rig.counts c.answer_line.new.rig)) c.lines.invariant.same c.answer_line.ensures.does)
 
 pub returns-then-is_quit-clause-leaves : goal.returns-then-is_quit-clause-leaves
 returns-then-is_quit-clause-leaves g c = λ t. g.met.C.Cache.leaves_both _ _ _ (c.lines.invariant.leaves t) (c.answer_line.ensures.leaves t)

@@ -34,7 +34,7 @@ invariant-lines g l =
       ready : g.C.Cache.ready l.cache (fuel l.reader + 1) (g.R.Rig.device_size l.rig);
       falls : NeverFalls (g.R.Rig.counts l.fn.rig) (g.R.Rig.counts l.rig);
       size : g.R.Rig.device_size l.rig ≡ g.R.Rig.device_size l.fn.rig;
-      does : g.C.Cache.does (g.R.Rig.counts l.fn.rig) (g.R.Rig.counts l.rig);
+      does : g.C.Cache.does terms (g.R.Rig.counts l.fn.rig) (g.R.Rig.counts l.rig);
       leaves : g.R.Rig.tells → g.C.Cache.leaves (world l.fn.rig) (world l.rig);
       later : g.S.Source.failures l.fn.source ≤ g.S.Source.failures l.source;
       bounds : g.S.Source.tells

@@ -3,6 +3,7 @@ use Rattle.std.proofs.lemmas.List.Sums.{count_by-le-length}
 use Rattle.std.specs.Str.{bytes_eq}
 use Rattle.dd_record.specs.declared.row.BRow.{BRow}
 use Rattle.dd_model.specs.Listing.{Listing}
+use Rattle.dd_serve.proofs.Written.{only_asked}
 use Rattle.dd_serve.proofs.blocks.find.Goals as goal
 
 pub returns-clause-asks : goal.returns-clause-asks
@@ -17,3 +18,6 @@ returns-clause-asks g c =
         (omega (arith, calls.1.0), omega (arith, calls.1.1), omega (arith, calls.1.2)),
       ),
     )
+
+pub returns-clause-blocks : goal.returns-clause-blocks
+returns-clause-blocks g c = only_asked c.args.slots.now.block _ (g.R.Rig.counts c.args.rig.now) (g.R.Rig.counts c.confirm.new.rig) c.confirm.ensures.calls c.confirm.ensures.frame.0

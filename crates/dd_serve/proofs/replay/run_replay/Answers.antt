@@ -23,6 +23,8 @@ use Rattle.dd_serve.proofs.Refused.{says_sooner, refuses_fault, refuses_large}
 use Rattle.dd_serve.proofs.replay.run_replay.Goals as goal
 
 pub returns-in-Err-clause-refused : goal.returns-in-Err-clause-refused
+use Rattle.dd_serve.specs.Laws.{only_both}
+use Rattle.dd_serve.proofs.Written.{only_idle, only_read}
 returns-in-Err-clause-refused g c = λ t.
     let size = g.R.Rig.device_size c.args.rig.now in
     let old : World = g.R.Rig.world c.args.rig.now in
@@ -92,3 +94,18 @@ returns-in-Ok-false-clause-served g c = λ t u first.
     let one = subst (λ (w : World). Replays print c.args.plan (g.R.Rig.device_size c.args.rig.now Disk) c.serve_plan.result script w new (g.R.Rig.counts c.is_in_use.new.rig) after) (c.is_in_use.ensures.world t)
     (subst (λ (size : Dev → ℕ). Replays print c.args.plan (size Disk) c.serve_plan.result script (g.R.Rig.world c.is_in_use.new.rig) new (g.R.Rig.counts c.is_in_use.new.rig) after) c.is_in_use.ensures.frame.1 (c.serve_plan.ensures.served t u)) in
     subst (λ (k : Counts). Replays print c.args.plan (g.R.Rig.device_size c.args.rig.now Disk) c.serve_plan.result script old new k after) c.in-Ok-false.ensures.counts one
+
+pub returns-in-Err-clause-blocks : goal.returns-in-Err-clause-blocks
+returns-in-Err-clause-blocks g c =
+    only_idle c.args.plan.block (g.R.Rig.counts c.args.rig.now) (g.R.Rig.counts c.is_in_use.new.rig) (g.R.Rig.counts c.finish.new.rig)
+    (only_read c.args.plan.block Flash c.is_in_use.result (g.R.Rig.counts c.args.rig.now) (g.R.Rig.counts c.is_in_use.new.rig) c.is_in_use.ensures.counts) c.finish.ensures.idle
+
+pub returns-in-Ok-true-clause-blocks : goal.returns-in-Ok-true-clause-blocks
+returns-in-Ok-true-clause-blocks g c =
+    only_idle c.args.plan.block (g.R.Rig.counts c.args.rig.now) (g.R.Rig.counts c.is_in_use.new.rig) (g.R.Rig.counts c.finish-in-Ok-true.new.rig)
+    (only_read c.args.plan.block Flash c.is_in_use.result (g.R.Rig.counts c.args.rig.now) (g.R.Rig.counts c.is_in_use.new.rig) c.is_in_use.ensures.counts) c.finish-in-Ok-true.ensures.idle
+
+pub returns-in-Ok-false-clause-blocks : goal.returns-in-Ok-false-clause-blocks
+returns-in-Ok-false-clause-blocks g c =
+    only_both c.args.plan.block (g.R.Rig.counts c.args.rig.now) (g.R.Rig.counts c.is_in_use.new.rig) (g.R.Rig.counts c.serve_plan.new.rig)
+    (only_read c.args.plan.block Flash c.is_in_use.result (g.R.Rig.counts c.args.rig.now) (g.R.Rig.counts c.is_in_use.new.rig) c.is_in_use.ensures.counts) c.serve_plan.ensures.blocks

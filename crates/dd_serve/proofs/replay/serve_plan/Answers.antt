@@ -20,6 +20,7 @@ use Rattle.dd_loop.proofs.Causes.{halts_by}
 use Rattle.dd_serve.proofs.Finishing.{status_for, serves_all, serves_cut, ends_silent, stops_alone, stops_served, stops_early, stop_large}
 use Rattle.dd_serve.proofs.replay.serve_plan.Goals as goal
 
+use Rattle.dd_serve.proofs.Written.{only_idle}
 status_is : (b : Bool) → status_for b ≡ status_of (Served b)
 status_is true = refl
 status_is false = refl
@@ -103,3 +104,15 @@ returns-in-Stopped-clause-time g c = λ t. end_moment _ _ _ _ (g.R.Rig.world c.s
 
 pub returns-in-Stopped-clause-taken : goal.returns-in-Stopped-clause-taken
 returns-in-Stopped-clause-taken g c = λ u small. absurd (omega (arith, small, stop_large c.in-Stopped.why, c.finish-in-Stopped.ensures.status))
+
+pub returns-in_default-clause-blocks : goal.returns-in_default-clause-blocks
+returns-in_default-clause-blocks g c = only_idle c.args.plan.block (g.R.Rig.counts c.args.rig.now) (g.R.Rig.counts c.serve_script.new.rig) (g.R.Rig.counts c.finish.new.rig) c.serve_script.ensures.blocks c.finish.ensures.idle
+
+pub returns-in-Ok-served-clause-blocks : goal.returns-in-Ok-served-clause-blocks
+returns-in-Ok-served-clause-blocks g c = only_idle c.args.plan.block (g.R.Rig.counts c.args.rig.now) (g.R.Rig.counts c.serve_script.new.rig) (g.R.Rig.counts c.finish-in-Ok-served.new.rig) c.serve_script.ensures.blocks c.finish-in-Ok-served.ensures.idle
+
+pub returns-in-Output-clause-blocks : goal.returns-in-Output-clause-blocks
+returns-in-Output-clause-blocks g c = only_idle c.args.plan.block (g.R.Rig.counts c.args.rig.now) (g.R.Rig.counts c.serve_script.new.rig) (g.R.Rig.counts c.finish-in-Output.new.rig) c.serve_script.ensures.blocks c.finish-in-Output.ensures.idle
+
+pub returns-in-Stopped-clause-blocks : goal.returns-in-Stopped-clause-blocks
+returns-in-Stopped-clause-blocks g c = only_idle c.args.plan.block (g.R.Rig.counts c.args.rig.now) (g.R.Rig.counts c.serve_script.new.rig) (g.R.Rig.counts c.finish-in-Stopped.new.rig) c.serve_script.ensures.blocks c.finish-in-Stopped.ensures.idle

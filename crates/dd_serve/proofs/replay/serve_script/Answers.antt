@@ -1,4 +1,4 @@
-use Rattle.std.proofs.Common.{ap, ℕ, List, ◌∙◌, arith}
+use Rattle.std.proofs.Common.{ap, ℕ, List, subst, ◌∙◌, arith}
 use Rattle.std.proofs.lemmas.Result.{IfErr-weaker}
 use Rattle.dd_block.specs.declared.print.Fp.{Fp}
 use Rattle.dd_rig.specs.declared.device.Dev.TheVariants.{Disk}
@@ -16,6 +16,7 @@ use Rattle.dd_serve.specs.Scratch.{ScratchView, scratch_sizes}
 use Rattle.dd_serve.proofs.Moments.{script_moment}
 use Rattle.dd_serve.proofs.Scripts.{all_for, some_for, all_bounded, all_taken, bounded_back}
 use Rattle.dd_serve.proofs.Starts.{first_fits, first_holds, first_sizes}
+use Rattle.dd_serve.specs.Calls.{OnlyBlocks}
 use Rattle.dd_serve.proofs.replay.serve_script.Goals as goal
 
 pub serve_lines-requires-clause-ready : goal.serve_lines-requires-clause-ready
@@ -89,3 +90,6 @@ returns-clause-halt g c =
     (λ (halt : Halt). Halts IsFlash F P halt (counts c.args.rig.now) (counts c.serve_lines.new.rig))
     (λ (halt : Halt). Halts IsFlash F Q halt (counts c.args.rig.now) (counts c.serve_lines.new.rig))
     (λ halt s. halts_by IsFlash F P F Q (λ f. f) w halt _ _ s) c.serve_lines.ensures.halt
+
+pub returns-clause-blocks : goal.returns-clause-blocks
+returns-clause-blocks g c = subst (λ (n : ℕ). OnlyBlocks n (g.R.Rig.counts c.args.rig.now) (g.R.Rig.counts c.serve_lines.new.rig)) c.in_ok-scratch.ensures.slots.same_block c.serve_lines.ensures.does

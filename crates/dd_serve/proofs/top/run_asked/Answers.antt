@@ -10,10 +10,10 @@ use Rattle.dd_loop.specs.Saying.{SaysAlone}
 use Rattle.dd_answers.specs.Headline.{sizes_from}
 use Rattle.dd_serve.specs.declared.words.Asked.{Asked}
 use Rattle.dd_serve.specs.Replays.{lines_since, plan_sizes, replay_commands, replay_dialect, replay_start, said_since}
-use Rattle.dd_serve.specs.Run.{IsCaused, Shows, Leaves, EndsWell, Takes}
+use Rattle.dd_serve.specs.Run.{IsCaused, Does, Shows, Leaves, EndsWell, Takes}
 use Rattle.dd_serve.specs.Words.{HasRanges, IsPlan}
 use Rattle.dd_serve.proofs.Ranges.{commands_in}
-use Rattle.dd_serve.proofs.Running.{format_caused, format_ends, replay_caused, replay_ends, small_caused, small_leaves}
+use Rattle.dd_serve.proofs.Running.{format_caused, format_ends, replay_caused, replay_ends, small_calls, small_caused, small_leaves}
 use Rattle.dd_serve.proofs.Starts.{replay_rules}
 use Rattle.dd_serve.proofs.Together.{stats_tell}
 use Rattle.dd_serve.proofs.top.run_asked.Goals as goal
@@ -28,6 +28,9 @@ returns-in-Some-clause-cause g c =
     let size = g.R.Rig.device_size c.args.rig.now in
     small_caused c.args.asked c.in-Some.why c.finish.result (λ line. g.R.Rig.tells → SaysAlone line before after old new) (c.args.source.now ≡ c.args.source.now) g.S.Source.tells size script
     before after (g.S.Source.failures c.args.source.now) (g.S.Source.failures c.args.source.now) (sym c.in-Some.is ∙ c.too_small.ensures.why) c.finish.ensures.status c.in-Some.ensures.status
+
+pub returns-in-Some-clause-calls : goal.returns-in-Some-clause-calls
+returns-in-Some-clause-calls g c = small_calls c.args.asked c.finish.result (g.R.Rig.counts c.args.rig.now) (g.R.Rig.counts c.finish.new.rig) c.finish.ensures.idle
 
 pub returns-in-Some-clause-crash : goal.returns-in-Some-clause-crash
 returns-in-Some-clause-crash g c = λ t.
@@ -48,6 +51,11 @@ returns-in-Replay-clause-cause g c =
     subst (λ (a : Asked). IsCaused a c.run_replay.result (λ line. g.R.Rig.tells → SaysAlone line before after old new) (c.run_replay.new.source ≡ c.args.source.now) g.S.Source.tells script before after (g.S.Source.failures c.args.source.now) (g.S.Source.failures c.run_replay.new.source)) (sym c.in-Replay.is)
     (replay_caused c.run_replay.result (λ line. g.R.Rig.tells → SaysAlone line before after old new) before after (g.S.Source.failures c.args.source.now) (g.S.Source.failures c.run_replay.new.source)
     c.run_replay.ensures.status c.run_replay.ensures.script c.run_replay.ensures.emit c.run_replay.ensures.device (λ four t. c.run_replay.ensures.memory t four))
+
+pub returns-in-Replay-clause-calls : goal.returns-in-Replay-clause-calls
+returns-in-Replay-clause-calls g c =
+    subst (λ (a : Asked). Does a c.run_replay.result (g.R.Rig.counts c.args.rig.now) (g.R.Rig.counts c.run_replay.new.rig)) (sym c.in-Replay.is)
+    (c.run_replay.ensures.blocks, c.run_replay.ensures.looks)
 
 pub returns-in-Replay-clause-shown : goal.returns-in-Replay-clause-shown
 returns-in-Replay-clause-shown g c = λ t.
