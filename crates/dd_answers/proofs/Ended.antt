@@ -86,7 +86,11 @@ memory_status long (Stopped stop.Length) a b m n h e = absurd (omega (arith, e))
 memory_status long (Stopped stop.Memory) a b m n h e = refl
 memory_status long Unheard a b m n h e = absurd (omega (arith, e))
 
--- and it is neither 2 nor 3
+-- and it isn't refused
+pub never_refused : (long : Type 0) (why : Refusal) (ending : Ending) (a b : Counts) (m n : ℕ) → ending ≡ Refused why → Caused ⊥ long ending a b m n → ⊥
+never_refused long why ending a b m n is h = subst (λ (e : Ending). Caused ⊥ long e a b m n) is h
+
+-- behind an opening the status is neither 2 nor 3
 pub opened_status : (long : Type 0) (ending : Ending) (a b : Counts) (m n : ℕ) → Caused ⊥ long ending a b m n → (status_of ending ≢ 2) × (status_of ending ≢ 3)
 opened_status long (Served false) a b m n h = ((λ e. omega (arith, e)), λ e. omega (arith, e))
 opened_status long (Served true) a b m n h = ((λ e. omega (arith, e)), λ e. omega (arith, e))
@@ -301,3 +305,18 @@ refuses_so fault size before between after old middle new first ending is falls 
   flash_same = ap (λ (d : Device). d.shown) devices.0 ∙ shows dev.Flash;
   disk_same = ap (λ (d : Device). d.shown) devices.1 ∙ shows dev.Disk;
 }
+
+-- an opening that failed
+pub opening_cause : (opening long : Type 0) → opening → (fault : OpenFault) (a b : Counts) (m n : ℕ) → OpenFaulted fault a b → Caused opening long (ending_of fault) a b m n
+opening_cause opening long o (open_fault.Memory e) a b m n h = tt
+opening_cause opening long o open_fault.FlashRead a b m n h = inr (o, h)
+opening_cause opening long o open_fault.FlashWrite a b m n h = inl h
+opening_cause opening long o open_fault.DiskWrite a b m n h = h
+opening_cause opening long o (open_fault.FlashSmall need have) a b m n h = o
+opening_cause opening long o (open_fault.DiskSmall need have) a b m n h = o
+opening_cause opening long o (open_fault.Super fault) a b m n h = o
+opening_cause opening long o open_fault.NoRegion a b m n h = o
+opening_cause opening long o (open_fault.Snapshot region at) a b m n h = o
+opening_cause opening long o (open_fault.Group region at) a b m n h = o
+opening_cause opening long o (open_fault.Worn value) a b m n h = o
+opening_cause opening long o open_fault.Version1 a b m n h = o

@@ -31,10 +31,10 @@ ending_of (open_fault.Group region at) = Refused (refusal.Group region at)
 ending_of (open_fault.Worn value) = Refused (refusal.Worn value)
 ending_of open_fault.Version1 = Refused refusal.Version1
 
--- a status is that of an ending, and which count rose tells why it ended so
-abbrev pub EndsForCause : (opening long : Type 0) → (status : ℕ) → (before after : Counts) → (takes_before takes_after : ℕ) → Type 0
-EndsForCause opening long status before after takes_before takes_after =
-    (ending : Ending) × (status ≡ status_of ending) × Caused opening long ending before after takes_before takes_after
+-- a status is that of an ending: which count rose tells why it ended so, and its line was said
+abbrev pub EndsForCause : (opening long : Type 0) → (Says : Ending → Type 0) → (status : ℕ) → (before after : Counts) → (takes_before takes_after : ℕ) → Type 0
+EndsForCause opening long Says status before after takes_before takes_after =
+    (ending : Ending) × (status ≡ status_of ending) × Caused opening long ending before after takes_before takes_after × Says ending
 
 -- the line of the first fault was said, and nothing else
 pub record RefusesDevices (size : Dev → ℕ) (flash : List ℕ) (before after : Counts) (old new : World) : Type 0 where

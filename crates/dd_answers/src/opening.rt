@@ -11,6 +11,7 @@ ghost use Rattle.dd_script.specs.Reading.{IsTakenTo, script_limit};
 ghost use Rattle.dd_script.specs.Script.{commands_of};
 ghost use Rattle.dd_store.specs.Keeping.{Kept};
 ghost use Rattle.dd_store.specs.Meaning.{sizes_of};
+ghost use Rattle.dd_loop.specs.Ending.{SaysEnding};
 ghost use Rattle.dd_loop.specs.Saying.{IsIdle};
 ghost use Rattle.dd_answers.specs.Answering.{MayAnswer};
 ghost use Rattle.dd_answers.specs.Headline.{Begins, Headline, Promises, sizes_from};
@@ -60,7 +61,7 @@ pub fn serve<F: Fingerprint, L: Lists, R: Rig, S: Source>(
     ensures asked { result ≢ 2 }
     ensures quiet { R.tells → S.tells → (from : Begins (F.printed print) (R.world rig.old))
         → IsQuiet (R.counts rig.old) (R.counts rig.new) → IsStill (S.failures source.old) (S.failures source.new) → IsBounded (sizes_from from) (S.rest source.old) → (result ≡ 0) ⊎ (result ≡ 4) }
-    ensures caused { EndsForCause (source.new ≡ source.old) ((sizes : Sizes) × (S.tells → IsBounded sizes (S.rest source.old) → ⊥)) result (R.counts rig.old) (R.counts rig.new) (S.failures source.old) (S.failures source.new) }
+    ensures caused { EndsForCause (source.new ≡ source.old) ((sizes : Sizes) × (S.tells → IsBounded sizes (S.rest source.old) → ⊥)) (λ ending. R.tells → SaysEnding ending (R.counts rig.old) (R.counts rig.new) (R.world rig.old) (R.world rig.new)) result (R.counts rig.old) (R.counts rig.new) (S.failures source.old) (S.failures source.new) }
     ensures refused { R.tells → result ≡ 3 → RefusesDevices (R.device_size rig.old) (shown FlashDevice (R.world rig.old)) (R.counts rig.old) (R.counts rig.new) (R.world rig.old) (R.world rig.new) }
     ensures unopened { R.tells → (fault : OpenFault) → IsFirstFault (R.device_size rig.old) (shown FlashDevice (R.world rig.old)) fault → IsUnserved result }
     ensures frame { Frame (R.counts rig.old) (R.counts rig.new) (R.device_size rig.old) (R.device_size rig.new) }
@@ -92,7 +93,7 @@ fn end_store<F: Fingerprint, L: Lists, R: Rig, S: Source>(
         → Serves (F.printed store.print) (sizes_of store.store.journal.geo) start (S.rest source.old) 0 result (R.world rig.old) (R.world rig.new) (R.counts rig.old) (R.counts rig.new) }
     ensures quiet { R.tells → S.tells → (start : State) → Kept (F.printed store.print) store.store (R.world rig.old) start start
         → IsQuiet (R.counts rig.old) (R.counts rig.new) → IsStill (S.failures source.old) (S.failures source.new) → IsBounded (sizes_of store.store.journal.geo) (S.rest source.old) → (result ≡ 0) ⊎ (result ≡ 4) }
-    ensures caused { EndsForCause ⊥ (S.tells → IsBounded (sizes_of store.store.journal.geo) (S.rest source.old) → ⊥) result (R.counts rig.old) (R.counts rig.new) (S.failures source.old) (S.failures source.new) }
+    ensures caused { EndsForCause ⊥ (S.tells → IsBounded (sizes_of store.store.journal.geo) (S.rest source.old) → ⊥) (λ ending. R.tells → SaysEnding ending (R.counts rig.old) (R.counts rig.new) (R.world rig.old) (R.world rig.new)) result (R.counts rig.old) (R.counts rig.new) (S.failures source.old) (S.failures source.new) }
     ensures taken { S.tells → result ≤ 1 → IsTakenTo (dialect_of (sizes_of store.store.journal.geo)) (S.rest source.old) (S.rest source.new) }
     ensures untaken { result ≡ 4 → (source.new ≡ source.old) × IsIdle (R.counts rig.old) (R.counts rig.new) }
     ensures opened { (result ≢ 2) × (result ≢ 3) }

@@ -11,6 +11,7 @@ use Rattle.dd_recover.specs.Opening.{OpenFaulted}
 use Rattle.dd_recover.specs.declared.opening_fault.OpenFault.{OpenFault}
 use Rattle.dd_recover.specs.declared.opening_fault.OpenFault.TheVariants as open_fault
 use Rattle.dd_script.specs.Text.{ended, stop_text, sum_text, bye_text}
+use Rattle.dd_script.specs.declared.reply.Refusal.{Refusal}
 use Rattle.dd_script.specs.declared.reply.Stop.{Stop}
 use Rattle.dd_script.specs.declared.reply.Stop.TheVariants as stop
 use Rattle.dd_script.proofs.LineEnds.{sum_no_end, numbered_no_end}
@@ -207,6 +208,10 @@ memory_ending (Stopped stop.Script) a b h e = absurd h
 memory_ending (Stopped stop.Length) a b h e = absurd h
 memory_ending (Stopped stop.Memory) a b h e = refl
 memory_ending Unheard a b h e = absurd (omega (arith, e))
+
+-- and it isn't refused
+pub never_refused : (why : Refusal) (ending : Ending) (a b : Counts) → ending ≡ Refused why → Caused ⊥ ending a b → ⊥
+never_refused why ending a b is h = subst (λ (e : Ending). Caused ⊥ e a b) is h
 
 -- and it is neither 2 nor 3
 pub opened_ending : (ending : Ending) (a b : Counts) → Caused ⊥ ending a b → (status_of ending ≢ 2) × (status_of ending ≢ 3)

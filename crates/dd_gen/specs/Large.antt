@@ -114,9 +114,9 @@ Caused opening (Stopped stop.Length) before after = ⊥
 Caused opening (Stopped stop.Memory) before after = ⊤
 Caused opening Unheard before after = Rose before.failed_emits after.failed_emits
 
--- a status is that of an ending, and which count rose tells why it ended so
-abbrev pub EndsForCause : (opening : Type 0) → (status : ℕ) → (before after : Counts) → Type 0
-EndsForCause opening status before after = (ending : Ending) × (status ≡ status_of ending) × Caused opening ending before after
+-- a status is that of an ending: which count rose tells why it ended so, and its line was said
+abbrev pub EndsForCause : (opening : Type 0) → (Says : Ending → Type 0) → (status : ℕ) → (before after : Counts) → Type 0
+EndsForCause opening Says status before after = (ending : Ending) × (status ≡ status_of ending) × Caused opening ending before after × Says ending
 
 -- what a run says that generates its commands over devices which stand for the state at its start
 pub record TellsSums (print : List ℕ → Fp) (sizes : Sizes) (start : State) (seed count status : ℕ) (before after : Counts) (old new : World) : Type 0 where

@@ -10,6 +10,7 @@ ghost use Rattle.dd_recover.specs.Opening.{IsFirstFault};
 ghost use Rattle.dd_store.specs.Keeping.{Kept};
 ghost use Rattle.dd_store.specs.Meaning.{sizes_of};
 ghost use Rattle.dd_loop.specs.declared.ending.Ending.TheVariants.{Stopped};
+ghost use Rattle.dd_loop.specs.Ending.{SaysEnding};
 ghost use Rattle.dd_loop.specs.Saying.{IsIdle};
 ghost use Rattle.dd_answers.specs.Answering.{MayAnswer};
 ghost use Rattle.dd_answers.specs.Headline.{Begins, sizes_from};
@@ -51,7 +52,7 @@ pub fn generate<F: Fingerprint, L: Lists, R: Rig>(
     ensures tells { R.tells → (from : Begins (F.printed print) (R.world rig.old))
         → TellsSums (F.printed print) (sizes_from from) from.start seed count result (R.counts rig.old) (R.counts rig.new) (R.world rig.old) (R.world rig.new) }
     ensures quiet { R.tells → (from : Begins (F.printed print) (R.world rig.old)) → IsQuiet (R.counts rig.old) (R.counts rig.new) → (result ≡ 0) ⊎ (result ≡ 4) }
-    ensures caused { EndsForCause ⊤ result (R.counts rig.old) (R.counts rig.new) }
+    ensures caused { EndsForCause ⊤ (λ ending. R.tells → SaysEnding ending (R.counts rig.old) (R.counts rig.new) (R.world rig.old) (R.world rig.new)) result (R.counts rig.old) (R.counts rig.new) }
     ensures asked { result ≢ 2 }
     ensures refused { R.tells → result ≡ 3 → RefusesDevices (R.device_size rig.old) (shown FlashDevice (R.world rig.old)) (R.counts rig.old) (R.counts rig.new) (R.world rig.old) (R.world rig.new) }
     ensures unopened { R.tells → (fault : OpenFault) → IsFirstFault (R.device_size rig.old) (shown FlashDevice (R.world rig.old)) fault → IsUnserved result }
@@ -83,7 +84,7 @@ fn end_store<F: Fingerprint, L: Lists, R: Rig>(
         → (o : Outcome) → MayLeave (R.world rig.new) o → LeavesGenerated (F.printed store.print) (sizes_of store.store.journal.geo) start seed count (R.world rig.old).said o }
     ensures tells { R.tells → (start : State) → Kept (F.printed store.print) store.store (R.world rig.old) start start
         → TellsSums (F.printed store.print) (sizes_of store.store.journal.geo) start seed count result (R.counts rig.old) (R.counts rig.new) (R.world rig.old) (R.world rig.new) }
-    ensures caused { EndsForCause ⊥ result (R.counts rig.old) (R.counts rig.new) }
+    ensures caused { EndsForCause ⊥ (λ ending. R.tells → SaysEnding ending (R.counts rig.old) (R.counts rig.new) (R.world rig.old) (R.world rig.new)) result (R.counts rig.old) (R.counts rig.new) }
     ensures opened { (result ≢ 2) × (result ≢ 3) }
     ensures early { result ≡ 4 → IsIdle (R.counts rig.old) (R.counts rig.new) }
     ensures frame { Frame (R.counts rig.old) (R.counts rig.new) (R.device_size rig.old) (R.device_size rig.new) }

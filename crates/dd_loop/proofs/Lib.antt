@@ -9,3 +9,4 @@ pub mod FaultLines
 pub mod Keeping
 pub mod Served
 pub mod Listing
+pub mod Lastly

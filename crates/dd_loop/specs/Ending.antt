@@ -1,6 +1,7 @@
 -- How a run ends: its status, and the line that says why.
-use Rattle.std.specs.Prelude.{◌≡◌, ℕ, true, false, List, Option, Some, None}
+use Rattle.std.specs.Prelude.{◌≡◌, ◌⊎◌, ℕ, true, false, List, ◌++◌, take, Option, Some, None, ⊤}
 use Rattle.dd_rig.specs.declared.tallies.Counts.{Counts}
+use Rattle.dd_rig.specs.Counts.{Rose}
 use Rattle.dd_rig.specs.World.{World, Outcome, WithinEmit}
 use Rattle.dd_script.specs.declared.reply.Refusal.{Refusal}
 use Rattle.dd_script.specs.declared.reply.Refusal.TheVariants as refusal
@@ -56,3 +57,19 @@ SaysLast (Some line) before after old new = SaysAlone line before after old new
 abbrev pub WithinLast : Option (List ℕ) → World → Outcome → Type 0
 WithinLast None old o = ⊥
 WithinLast (Some line) old o = WithinEmit (ended line) old o
+
+-- the output ends with that line, or an emit failed and it ends with a part of it
+abbrev pub SaysBehind : List ℕ → Counts → Counts → World → Type 0
+SaysBehind line before after new =
+    (front : List ℕ) × ((new.said ≡ front ++ ended line) ⊎ (Rose before.failed_emits after.failed_emits × (n : ℕ) × (new.said ≡ front ++ take n (ended line))))
+
+-- The line of each ending: a run that was refused, or had no memory, says it and nothing else, and one that stopped behind all else.
+abbrev pub SaysEnding : Ending → Counts → Counts → World → World → Type 0
+SaysEnding (Served faulted) before after old new = ⊤
+SaysEnding (Refused why) before after old new = SaysAlone (refusal_text why) before after old new
+SaysEnding (Stopped stop.Memory) before after old new = SaysAlone (stop_text stop.Memory) before after old new
+SaysEnding (Stopped stop.Script) before after old new = SaysBehind (stop_text stop.Script) before after new
+SaysEnding (Stopped stop.Flash) before after old new = SaysBehind (stop_text stop.Flash) before after new
+SaysEnding (Stopped stop.Disk) before after old new = SaysBehind (stop_text stop.Disk) before after new
+SaysEnding (Stopped stop.Length) before after old new = SaysBehind (stop_text stop.Length) before after new
+SaysEnding Unheard before after old new = ⊤

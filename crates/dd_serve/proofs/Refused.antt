@@ -16,11 +16,10 @@ use Rattle.dd_recover.specs.Formatting.{TellsSmall, TellsFault, IsUnusedOrFormat
 use Rattle.dd_rig.specs.World.{IsOwn}
 use Rattle.dd_script.specs.declared.reply.Refusal.{Refusal}
 use Rattle.dd_script.specs.declared.reply.Refusal.TheVariants as refusal
-use Rattle.dd_script.specs.declared.reply.Stop.TheVariants as stop
-use Rattle.dd_script.specs.Text.{ended, stop_text}
+use Rattle.dd_script.specs.Text.{ended}
 use Rattle.dd_loop.specs.Saying.{SaysAlone}
 use Rattle.dd_loop.specs.Ending.{SaysLast, ending_line, status_of}
-use Rattle.dd_serve.specs.Formats.{ending_of, FormatLeaves, FormatStops, Formats}
+use Rattle.dd_serve.specs.Formats.{ending_of, FormatLeaves, Formats}
 use Rattle.dd_serve.specs.Refusing.{Refuses}
 
 -- a line is alone over a part of a run in front of which nothing was said
@@ -57,17 +56,6 @@ pub small_none : (a b : Bool) (x y : Refusal) (v w : FormatFault) → ◌≡◌ 
 small_none true b x y v w e = absurd (cc)
 small_none false true x y v w e = absurd (cc)
 small_none false false x y v w e = refl
-
--- the device whose call failed is the one that the line names
-pub device_fault : (why : FormatFault) (Says : List ℕ → Type 0) (a d : Counts)
-    → (why ≡ fault.FlashRead → Rose a.flash.failed_reads d.flash.failed_reads) → (why ≡ fault.FlashWrite → Rose a.flash.failed_writes d.flash.failed_writes)
-    → (why ≡ fault.DiskWrite → Rose a.disk.failed_writes d.disk.failed_writes) → ((line : List ℕ) → ending_line (ending_of why) ≡ Some line → Says line) → status_of (ending_of why) ≡ 7 → FormatStops Says a d
-device_fault (fault.FlashSmall need have) Says a d read write disk says e = absurd (omega (arith, e))
-device_fault (fault.DiskSmall need have) Says a d read write disk says e = absurd (omega (arith, e))
-device_fault fault.InUse Says a d read write disk says e = absurd (omega (arith, e))
-device_fault fault.FlashRead Says a d read write disk says e = inl (inl (read refl), says (stop_text stop.Flash) refl)
-device_fault fault.FlashWrite Says a d read write disk says e = inl (inr (write refl), says (stop_text stop.Flash) refl)
-device_fault fault.DiskWrite Says a d read write disk says e = inr (disk refl, says (stop_text stop.Disk) refl)
 
 -- a crash within a format, or within its line
 pub format_leaves : (geo : Geometry) (old middle : World) (first second last : Clock) → ((print : List ℕ → Fp) → Elapses first second (λ o. IsUnusedOrFormatted print geo old o.flash o.disk))

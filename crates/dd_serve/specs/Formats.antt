@@ -1,5 +1,5 @@
 -- A format: what its status says, and what a crash may leave.
-use Rattle.std.specs.Prelude.{◌≡◌, ◌⊎◌, ◌++◌, ℕ, false, List, ⊤}
+use Rattle.std.specs.Prelude.{◌≡◌, ◌≢◌, ◌⊎◌, ◌++◌, ℕ, false, List, ⊤}
 use Rattle.dd_block.specs.declared.print.Fp.{Fp}
 use Rattle.dd_block.specs.declared.geometry.Geometry.{Geometry}
 use Rattle.dd_rig.specs.declared.tallies.Counts.{Counts}
@@ -16,6 +16,7 @@ use Rattle.dd_script.specs.declared.reply.Stop.TheVariants as stop
 use Rattle.dd_script.specs.Text.{ended, reply_text, stop_text}
 use Rattle.dd_loop.specs.declared.ending.Ending.{Ending}
 use Rattle.dd_loop.specs.declared.ending.Ending.TheVariants.{Served, Refused, Stopped, Unheard}
+use Rattle.dd_loop.specs.Ending.{status_of}
 use Rattle.dd_loop.specs.Saying.{SaysAlone}
 
 -- how a format ends that failed
@@ -43,9 +44,9 @@ FormatEndsFor (Stopped stop.Length) Says before after = ⊥
 FormatEndsFor (Stopped stop.Memory) Says before after = ⊥
 FormatEndsFor Unheard Says before after = Rose before.failed_emits after.failed_emits
 
--- it stops at a device
-abbrev pub FormatStops : (Says : List ℕ → Type 0) → (before after : Counts) → Type 0
-FormatStops Says before after = FormatEndsFor (Stopped stop.Flash) Says before after ⊎ FormatEndsFor (Stopped stop.Disk) Says before after
+-- a status is that of an ending: which count rose tells why it ended so, and its line was said
+abbrev pub FormatIsCaused : (status : ℕ) → (Says : List ℕ → Type 0) → (Ends : Ending → Type 0) → (before after : Counts) → Type 0
+FormatIsCaused status Says Ends before after = (ending : Ending) × (status ≡ status_of ending) × (status ≢ 2) × FormatEndsFor ending Says before after × Ends ending
 
 -- whatever a crash leaves now stands for the disk's array, empty lists and no references
 abbrev pub AreFormatted : Geometry → (old new : World) → Type 0

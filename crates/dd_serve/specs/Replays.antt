@@ -20,7 +20,7 @@ use Rattle.dd_model.specs.Listing.{empty_listing}
 use Rattle.dd_serve.specs.Scratch.{ScratchView}
 use Rattle.dd_loop.specs.declared.ending.Ending.{Ending}
 use Rattle.dd_loop.specs.declared.ending.Ending.TheVariants.{Served, Refused, Stopped, Unheard}
-use Rattle.dd_loop.specs.Ending.{stopped_status}
+use Rattle.dd_loop.specs.Ending.{status_of, stopped_status}
 use Rattle.dd_loop.specs.declared.halt.Halt.{Halt}
 use Rattle.dd_loop.specs.Answering.{Pays}
 use Rattle.dd_loop.specs.Saying.{EndsIn}
@@ -33,21 +33,26 @@ use Rattle.dd_serve.specs.Calls.{AsksForLines, unfinished}
 abbrev pub IsReplayStatus : ℕ → Type 0
 IsReplayStatus status = (status ≤ 8) × (status ≢ 2)
 
--- it stops at the flash for a failed write, or for the look before all else, and then its line alone is said
-abbrev pub ReplayStops : (Says : List ℕ → Type 0) → (before after : Counts) → Type 0
-ReplayStops Says before after = Rose before.flash.failed_writes after.flash.failed_writes
-    ⊎ (Rose before.flash.failed_reads after.flash.failed_reads × Says (stop_text stop.Flash) × Makes (up_to 1 0 0) nothing before after)
+-- the look before all else failed: its line alone is said, and no other call is made
+abbrev pub LooksInVain : (Says : List ℕ → Type 0) → (before after : Counts) → Type 0
+LooksInVain Says before after = Rose before.flash.failed_reads after.flash.failed_reads × Says (stop_text stop.Flash) × Makes (up_to 1 0 0) nothing before after
 
--- Why it ends so. It never stops at the disk, and that a script is too long is told by its bytes.
-abbrev pub ReplayEndsFor : Ending → (Says : List ℕ → Type 0) → (before after : Counts) → (takes_before takes_after : ℕ) → Type 0
-ReplayEndsFor (Served faulted) Says before after takes_before takes_after = ⊤
-ReplayEndsFor (Refused why) Says before after takes_before takes_after = ⊤
-ReplayEndsFor (Stopped stop.Flash) Says before after takes_before takes_after = ReplayStops Says before after
-ReplayEndsFor (Stopped stop.Disk) Says before after takes_before takes_after = ⊥
-ReplayEndsFor (Stopped stop.Script) Says before after takes_before takes_after = Rose takes_before takes_after
-ReplayEndsFor (Stopped stop.Length) Says before after takes_before takes_after = ⊤
-ReplayEndsFor (Stopped stop.Memory) Says before after takes_before takes_after = Says (stop_text stop.Memory)
-ReplayEndsFor Unheard Says before after takes_before takes_after = Rose before.failed_emits after.failed_emits
+-- Why it ends so: it stops at the flash for a failed write, or for that look. It never stops at the disk, and that a script is too long is
+-- told by its bytes.
+abbrev pub ReplayEndsFor : (Looks : Type 0) → Ending → (Says : List ℕ → Type 0) → (before after : Counts) → (takes_before takes_after : ℕ) → Type 0
+ReplayEndsFor Looks (Served faulted) Says before after takes_before takes_after = ⊤
+ReplayEndsFor Looks (Refused why) Says before after takes_before takes_after = ⊤
+ReplayEndsFor Looks (Stopped stop.Flash) Says before after takes_before takes_after = Rose before.flash.failed_writes after.flash.failed_writes ⊎ Looks
+ReplayEndsFor Looks (Stopped stop.Disk) Says before after takes_before takes_after = ⊥
+ReplayEndsFor Looks (Stopped stop.Script) Says before after takes_before takes_after = Rose takes_before takes_after
+ReplayEndsFor Looks (Stopped stop.Length) Says before after takes_before takes_after = ⊤
+ReplayEndsFor Looks (Stopped stop.Memory) Says before after takes_before takes_after = Says (stop_text stop.Memory)
+ReplayEndsFor Looks Unheard Says before after takes_before takes_after = Rose before.failed_emits after.failed_emits
+
+-- a status is that of an ending: which count rose tells why it ended so, and its line was said
+abbrev pub ReplayIsCaused : (Looks : Type 0) → (status : ℕ) → (Says : List ℕ → Type 0) → (Ends : Ending → Type 0) → (before after : Counts) → (takes_before takes_after : ℕ) → Type 0
+ReplayIsCaused Looks status Says Ends before after takes_before takes_after =
+    (ending : Ending) × (status ≡ status_of ending) × (status ≢ 2) × ReplayEndsFor Looks ending Says before after takes_before takes_after × Ends ending
 
 -- no more blocks than these are numbered
 abbrev pub most_blocks : ℕ

@@ -8,8 +8,9 @@ ghost use Rattle.dd_rig.specs.Leaves.{SameOutside};
 ghost use Rattle.dd_journal.specs.Sitting.{regions_size};
 ghost use Rattle.dd_script.specs.declared.reply.Reply.TheVariants as reply;
 ghost use Rattle.dd_script.specs.Text.{ended, reply_text};
+ghost use Rattle.dd_loop.specs.Ending.{SaysEnding};
 ghost use Rattle.dd_loop.specs.Saying.{IsIdle, SaysAlone};
-ghost use Rattle.dd_serve.specs.Formats.{Formats, FormatLeaves, FormatStops, IsFormatStatus, ending_of};
+ghost use Rattle.dd_serve.specs.Formats.{Formats, FormatIsCaused, FormatLeaves, IsFormatStatus, ending_of};
 ghost use Rattle.dd_serve.specs.Refusing.{Refuses, small_for, refusal_for};
 ghost use Rattle.dd_serve.specs.declared.words.Asked.TheVariants.{Format};
 
@@ -24,8 +25,7 @@ pub fn run_format<R: Rig>(geo: Geometry, rig: &mut R) -> u8
     requires { small_for (Format geo) (R.device_size rig.old) ≡ None }
     ensures status { IsFormatStatus result }
     ensures refused { R.tells → Refuses (refusal_for (Format geo) (R.device_size rig.old) (shown FlashDevice (R.world rig.old))) result (R.counts rig.old) (R.counts rig.new) (R.world rig.old) (R.world rig.new) }
-    ensures emit { result ≡ 6 → Rose (R.counts rig.old).failed_emits (R.counts rig.new).failed_emits }
-    ensures device { result ≡ 7 → FormatStops (λ line. R.tells → SaysAlone line (R.counts rig.old) (R.counts rig.new) (R.world rig.old) (R.world rig.new)) (R.counts rig.old) (R.counts rig.new) }
+    ensures caused { FormatIsCaused result (λ line. R.tells → SaysAlone line (R.counts rig.old) (R.counts rig.new) (R.world rig.old) (R.world rig.new)) (λ ending. R.tells → SaysEnding ending (R.counts rig.old) (R.counts rig.new) (R.world rig.old) (R.world rig.new)) (R.counts rig.old) (R.counts rig.new) }
     ensures looks { result ≡ 3 → Makes (up_to 1 0 0) nothing (R.counts rig.old) (R.counts rig.new) }
     ensures calls { Makes (up_to 1 7 99) (up_to 0 1 0) (R.counts rig.old) (R.counts rig.new) }
     ensures formatted { R.tells → Formats geo result (R.counts rig.old) (R.counts rig.new) (R.world rig.old) (R.world rig.new) }

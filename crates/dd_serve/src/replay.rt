@@ -4,9 +4,8 @@ ghost use Rattle.dd_rig.specs.Counts.{Frame, Rose, NeverFalls, count_read, Makes
 ghost use Rattle.dd_rig.specs.declared.device.Dev.TheVariants.{Flash as FlashDevice, Disk as DiskDevice};
 ghost use Rattle.dd_rig.specs.World.{shown};
 ghost use Rattle.dd_script.specs.Reading.{IsTakenTo};
-ghost use Rattle.dd_script.specs.Text.{stop_text};
-ghost use Rattle.dd_script.specs.declared.reply.Stop.TheVariants.{Memory};
 ghost use Rattle.dd_serve.specs.declared.words.Asked.TheVariants.{Replay};
+ghost use Rattle.dd_loop.specs.Ending.{SaysEnding};
 ghost use Rattle.dd_loop.specs.Halting.{Halts};
 ghost use Rattle.dd_serve.specs.Words.{IsPlan};
 ghost use Rattle.dd_rig.specs.Clock.{AddsNone, Elapses};
@@ -15,7 +14,7 @@ ghost use Rattle.dd_serve.specs.Scratch.{Scratched, KeepsDevices};
 ghost use Rattle.dd_loop.specs.Saying.{IsIdle, SaysAlone};
 ghost use Rattle.dd_serve.specs.Refusing.{Refuses, small_for, refusal_for};
 ghost use Rattle.dd_serve.specs.Answering.{IsFlash};
-ghost use Rattle.dd_serve.specs.Replays.{IsReplayStatus, ReplayStops, Replays, ReplaysAll, ReplaysUpTo, IsBounded, IsFirst, replay_dialect};
+ghost use Rattle.dd_serve.specs.Replays.{IsReplayStatus, ReplayIsCaused, LooksInVain, Replays, ReplaysAll, ReplaysUpTo, IsBounded, IsFirst, replay_dialect};
 
 use crate::cache::ScratchCache;
 use crate::scratch::Scratch;
@@ -44,10 +43,7 @@ pub fn run_replay<F: Fingerprint, R: Rig, S: Source>(
     requires large { small_for (Replay plan) (R.device_size rig.old) ≡ None }
     ensures status { IsReplayStatus result }
     ensures refused { R.tells → Refuses (refusal_for (Replay plan) (R.device_size rig.old) (shown FlashDevice (R.world rig.old))) result (R.counts rig.old) (R.counts rig.new) (R.world rig.old) (R.world rig.new) }
-    ensures script { result ≡ 5 → Rose (S.failures source.old) (S.failures source.new) }
-    ensures emit { result ≡ 6 → Rose (R.counts rig.old).failed_emits (R.counts rig.new).failed_emits }
-    ensures device { result ≡ 7 → ReplayStops (λ line. R.tells → SaysAlone line (R.counts rig.old) (R.counts rig.new) (R.world rig.old) (R.world rig.new)) (R.counts rig.old) (R.counts rig.new) }
-    ensures memory { R.tells → result ≡ 4 → SaysAlone (stop_text Memory) (R.counts rig.old) (R.counts rig.new) (R.world rig.old) (R.world rig.new) }
+    ensures caused { ReplayIsCaused (LooksInVain (λ line. R.tells → SaysAlone line (R.counts rig.old) (R.counts rig.new) (R.world rig.old) (R.world rig.new)) (R.counts rig.old) (R.counts rig.new)) result (λ line. R.tells → SaysAlone line (R.counts rig.old) (R.counts rig.new) (R.world rig.old) (R.world rig.new)) (λ ending. R.tells → SaysEnding ending (R.counts rig.old) (R.counts rig.new) (R.world rig.old) (R.world rig.new)) (R.counts rig.old) (R.counts rig.new) (S.failures source.old) (S.failures source.new) }
     ensures served { R.tells → S.tells → refusal_for (Replay plan) (R.device_size rig.old) (shown FlashDevice (R.world rig.old)) ≡ None
         → Replays (F.printed print) plan (R.device_size rig.old DiskDevice) result (S.rest source.old) (R.world rig.old) (R.world rig.new) (looked (R.counts rig.old)) (R.counts rig.new) }
     ensures taken { S.tells → result ≤ 1 → IsTakenTo (replay_dialect plan (R.device_size rig.old DiskDevice)) (S.rest source.old) (S.rest source.new) }
@@ -90,10 +86,7 @@ fn serve_plan<F: Fingerprint, R: Rig, S: Source>(
     requires plan { IsPlan plan }
     requires large { small_for (Replay plan) (R.device_size rig.old) ≡ None }
     ensures status { (result ≤ 8) × (result ≢ 2) × (result ≢ 3) }
-    ensures script { result ≡ 5 → Rose (S.failures source.old) (S.failures source.new) }
-    ensures emit { result ≡ 6 → Rose (R.counts rig.old).failed_emits (R.counts rig.new).failed_emits }
-    ensures device { result ≡ 7 → Rose (R.counts rig.old).flash.failed_writes (R.counts rig.new).flash.failed_writes }
-    ensures memory { R.tells → result ≡ 4 → SaysAlone (stop_text Memory) (R.counts rig.old) (R.counts rig.new) (R.world rig.old) (R.world rig.new) }
+    ensures caused { ReplayIsCaused ⊥ result (λ line. R.tells → SaysAlone line (R.counts rig.old) (R.counts rig.new) (R.world rig.old) (R.world rig.new)) (λ ending. R.tells → SaysEnding ending (R.counts rig.old) (R.counts rig.new) (R.world rig.old) (R.world rig.new)) (R.counts rig.old) (R.counts rig.new) (S.failures source.old) (S.failures source.new) }
     ensures served { R.tells → S.tells → Replays (F.printed print) plan (R.device_size rig.old DiskDevice) result (S.rest source.old) (R.world rig.old) (R.world rig.new) (R.counts rig.old) (R.counts rig.new) }
     ensures others { R.tells → Scratched (R.world rig.old) (R.world rig.new) }
     ensures time { R.tells → Elapses (R.clock rig.old) (R.clock rig.new) (KeepsDevices (R.world rig.old)) }
@@ -123,7 +116,6 @@ fn start<L: Lists, R: Rig>(alloc: Global, plan: Plan, rig: &R) -> Result<Scratch
     let count = rig.size(Dev::Disk) / u64::from(plan.block);
     let blocks = if count < MOST_BLOCKS {
         count as u32
-#[tactic(auto, using(crate::proofs::Written::written_steps))]
     } else {
         MOST_BLOCKS as u32
     };
@@ -131,6 +123,7 @@ fn start<L: Lists, R: Rig>(alloc: Global, plan: Plan, rig: &R) -> Result<Scratch
 }
 
 // Replays the script, or finds no memory for it.
+#[tactic(auto, using(crate::proofs::Written::written_steps))]
 fn serve_script<L: Lists, F: Fingerprint, R: Rig, S: Source>(
     alloc: Global,
     plan: Plan,

@@ -1,4 +1,4 @@
-use Rattle.std.proofs.Common.{◌≡◌, ◌≢◌, ◌⊎◌, ℕ, ◌≤◌, List, subst, sym, ◌∙◌}
+use Rattle.std.proofs.Common.{◌≡◌, ◌≢◌, ◌⊎◌, ℕ, ◌≤◌, List, subst, sym, ◌∙◌, ap}
 use Rattle.dd_block.specs.declared.print.Fp.{Fp}
 use Rattle.dd_rig.proofs.Moments.{goes_on, widens}
 use Rattle.dd_model.specs.State.{Sizes}
@@ -8,7 +8,8 @@ use Rattle.dd_script.specs.Script.{commands_of}
 use Rattle.dd_store.specs.Meaning.{sizes_of}
 use Rattle.dd_loop.specs.Saying.{IsIdle}
 use Rattle.dd_answers.specs.Serving.{IsBounded, IsServed}
-use Rattle.dd_answers.proofs.Ended.{caused_later, memory_status, opened_status, quiet_ending, served_status}
+use Rattle.dd_loop.proofs.Lastly.{ending_since, first_by}
+use Rattle.dd_answers.proofs.Ended.{caused_later, memory_status, never_refused, opened_status, quiet_ending, served_status}
 use Rattle.dd_answers.proofs.Lasting.{headline_from, headline_last, headline_behind, serves_last}
 use Rattle.dd_answers.proofs.opening.end_store.Goals as goal
 
@@ -59,6 +60,13 @@ returns-clause-caused g c =
       c.finish.ensures.status,
       caused_later ⊥ long ⊥ long (λ never. absurd never) (λ h. h) c.serve_store-ending.result (g.R.Rig.counts c.args.rig.now) (g.R.Rig.counts c.serve_store-ending.new.rig)
           (g.R.Rig.counts c.finish.new.rig) (g.S.Source.failures c.args.source.now) (g.S.Source.failures c.serve_store-ending.new.source) c.finish.ensures.frame.0 c.serve_store-ending.ensures.caused,
+      λ t.
+          ending_since c.serve_store-ending.result (g.R.Rig.counts c.args.rig.now) (g.R.Rig.counts c.serve_store-ending.new.rig) (g.R.Rig.counts c.finish.new.rig) (g.R.Rig.world c.args.rig.now) (g.R.Rig.world c.serve_store-ending.new.rig)
+          (g.R.Rig.world c.finish.new.rig) c.serve_store-ending.ensures.frame.0
+          (first_by c.serve_store-ending.result ((g.R.Rig.world c.serve_store-ending.new.rig).said ≡ (g.R.Rig.world c.args.rig.now).said)
+          (λ why is. absurd (never_refused long why c.serve_store-ending.result (g.R.Rig.counts c.args.rig.now) (g.R.Rig.counts c.serve_store-ending.new.rig) (g.S.Source.failures c.args.source.now)
+          (g.S.Source.failures c.serve_store-ending.new.source) is c.serve_store-ending.ensures.caused))
+          (λ is. ap (λ rig. (g.R.Rig.world rig).said) (c.serve_store-ending.ensures.untaken is).1)) (c.finish.ensures.said t),
     )
 
 pub returns-clause-taken : goal.returns-clause-taken

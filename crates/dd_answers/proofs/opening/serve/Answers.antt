@@ -1,4 +1,4 @@
-use Rattle.std.proofs.Common.{◌≡◌, ◌≢◌, inl, inr, ℕ, List, sym, ◌∙◌, ap, subst}
+use Rattle.std.proofs.Common.{◌≡◌, ◌≢◌, inl, inr, ℕ, List, refl, sym, ◌∙◌, ap, subst}
 use Rattle.dd_block.specs.declared.print.Fp.{Fp}
 use Rattle.dd_block.specs.declared.geometry.Geometry.{Geometry}
 use Rattle.dd_rig.specs.Clock.{Elapses}
@@ -16,7 +16,8 @@ use Rattle.dd_loop.specs.Ending.{ending_line, status_of, SaysLast, WithinLast}
 use Rattle.dd_answers.specs.Headline.{Headline}
 use Rattle.dd_answers.specs.Opening.{ending_of}
 use Rattle.dd_answers.specs.Serving.{IsBounded, Serves}
-use Rattle.dd_answers.proofs.Ended.{opened_calls, Stops, stops, quiet_fault, refuses_first, unopened_within, unopened_behind, serves_unopened, by_three, caused_since, fault_asked, quiet_behind, refuses_so, serves_since}
+use Rattle.dd_loop.proofs.Lastly.{ending_since, ending_later}
+use Rattle.dd_answers.proofs.Ended.{opened_calls, Stops, stops, quiet_fault, refuses_first, unopened_within, unopened_behind, serves_unopened, by_three, caused_later, caused_since, fault_asked, opening_cause, quiet_behind, refuses_so, serves_since}
 use Rattle.dd_answers.proofs.opening.serve.Goals as goal
 
 pub returns-in-Err-clause-crash : goal.returns-in-Err-clause-crash
@@ -119,10 +120,30 @@ returns-in-Ok-clause-caused g c =
       h.1,
       caused_since (c.end_store.new.source ≡ c.args.source.now) ((x : Sizes) × (g.S.Source.tells → IsBounded x (g.S.Source.rest c.args.source.now) → ⊥)) (g.S.Source.tells → IsBounded sizes (g.S.Source.rest c.args.source.now) → ⊥) (λ long. (sizes, long))
           h.0 (g.R.Rig.counts c.args.rig.now) (g.R.Rig.counts c.open_store.new.rig) (g.R.Rig.counts c.end_store.new.rig) (g.S.Source.failures c.args.source.now) (g.S.Source.failures c.end_store.new.source) c.open_store.ensures.frame.0 h.2,
+      λ t.
+          ending_later h.0 (g.R.Rig.counts c.args.rig.now) (g.R.Rig.counts c.open_store.new.rig) (g.R.Rig.counts c.end_store.new.rig) (g.R.Rig.world c.args.rig.now) (g.R.Rig.world c.open_store.new.rig) (g.R.Rig.world c.end_store.new.rig)
+          c.open_store.ensures.frame.0 (c.open_store.ensures.said t) (h.3 t),
     )
 
 pub returns-in-Ok-clause-unopened : goal.returns-in-Ok-clause-unopened
 returns-in-Ok-clause-unopened g c = λ t fault first. absurd (c.in-Ok.ensures.fault t fault first)
+
+pub returns-in-Err-clause-caused : goal.returns-in-Err-clause-caused
+returns-in-Err-clause-caused g c =
+    let old : World = g.R.Rig.world c.args.rig.now in
+    let middle : World = g.R.Rig.world c.open_store.new.rig in
+    let new : World = g.R.Rig.world c.finish.new.rig in
+    let opening : Type 0 = c.args.source.now ≡ c.args.source.now in
+    let long : Type 0 = (x : Sizes) × (g.S.Source.tells → IsBounded x (g.S.Source.rest c.args.source.now) → ⊥) in (
+      ending_of c.in-Err.fault,
+      c.finish.ensures.status ∙ ap status_of c.ending_of-ending.ensures,
+      caused_later opening long opening long (λ h. h) (λ h. h) (ending_of c.in-Err.fault) (g.R.Rig.counts c.args.rig.now) (g.R.Rig.counts c.open_store.new.rig) (g.R.Rig.counts c.finish.new.rig)
+          (g.S.Source.failures c.args.source.now) (g.S.Source.failures c.args.source.now) c.finish.ensures.frame.0
+          (opening_cause opening long refl c.in-Err.fault (g.R.Rig.counts c.args.rig.now) (g.R.Rig.counts c.open_store.new.rig) (g.S.Source.failures c.args.source.now) (g.S.Source.failures c.args.source.now) c.in-Err.ensures.cause),
+      λ t.
+          ending_since (ending_of c.in-Err.fault) (g.R.Rig.counts c.args.rig.now) (g.R.Rig.counts c.open_store.new.rig) (g.R.Rig.counts c.finish.new.rig) old middle new c.open_store.ensures.frame.0 (λ first. c.open_store.ensures.said t)
+          (subst (λ (e : Ending). SaysLast (ending_line e) (g.R.Rig.counts c.open_store.new.rig) (g.R.Rig.counts c.finish.new.rig) middle new) c.ending_of-ending.ensures (c.finish.ensures.said t)),
+    )
 
 pub returns-in-Err-clause-asked : goal.returns-in-Err-clause-asked
 returns-in-Err-clause-asked g c = subst (λ (status : ℕ). status ≢ 2) (sym (c.finish.ensures.status ∙ ap status_of c.ending_of-ending.ensures)) (fault_asked c.in-Err.fault)

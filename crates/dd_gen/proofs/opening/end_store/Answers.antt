@@ -1,11 +1,12 @@
-use Rattle.std.proofs.Common.{◌≢◌, ℕ, List, subst, sym, ◌∙◌}
+use Rattle.std.proofs.Common.{◌≡◌, ◌≢◌, ℕ, List, subst, sym, ◌∙◌, ap}
 use Rattle.dd_block.specs.declared.print.Fp.{Fp}
 use Rattle.dd_rig.proofs.Falling.{falls_self}
 use Rattle.dd_rig.proofs.Moments.{goes_on}
 use Rattle.dd_model.specs.State.{Sizes}
 use Rattle.dd_store.specs.Meaning.{sizes_of}
 use Rattle.dd_loop.specs.Saying.{IsIdle}
-use Rattle.dd_gen.proofs.Ended.{caused_amid, last_within, last_behind, last_tells, memory_ending, opened_ending}
+use Rattle.dd_loop.proofs.Lastly.{ending_since, first_by}
+use Rattle.dd_gen.proofs.Ended.{caused_amid, last_within, last_behind, last_tells, memory_ending, never_refused, opened_ending}
 use Rattle.dd_gen.proofs.opening.end_store.Goals as goal
 
 pub returns-clause-crash : goal.returns-clause-crash
@@ -40,6 +41,12 @@ returns-clause-caused g c = (
   c.finish.ensures.status,
   caused_amid ⊥ ⊥ (λ never. never) c.run_store-ending.result (g.R.Rig.counts c.args.rig.now) (g.R.Rig.counts c.args.rig.now) (g.R.Rig.counts c.run_store-ending.new.rig) (g.R.Rig.counts c.finish.new.rig)
       (falls_self (g.R.Rig.counts c.args.rig.now)) c.finish.ensures.frame.0 c.run_store-ending.ensures.caused,
+  λ t.
+      ending_since c.run_store-ending.result (g.R.Rig.counts c.args.rig.now) (g.R.Rig.counts c.run_store-ending.new.rig) (g.R.Rig.counts c.finish.new.rig) (g.R.Rig.world c.args.rig.now) (g.R.Rig.world c.run_store-ending.new.rig)
+      (g.R.Rig.world c.finish.new.rig) c.run_store-ending.ensures.frame.0
+      (first_by c.run_store-ending.result ((g.R.Rig.world c.run_store-ending.new.rig).said ≡ (g.R.Rig.world c.args.rig.now).said)
+      (λ why is. absurd (never_refused why c.run_store-ending.result (g.R.Rig.counts c.args.rig.now) (g.R.Rig.counts c.run_store-ending.new.rig) is c.run_store-ending.ensures.caused))
+      (λ is. ap (λ rig. (g.R.Rig.world rig).said) (c.run_store-ending.ensures.memory is))) (c.finish.ensures.said t),
 )
 
 pub returns-clause-opened : goal.returns-clause-opened

@@ -11,6 +11,7 @@ use Rattle.dd_loop.specs.declared.ending.Ending.{Ending}
 use Rattle.dd_loop.specs.Ending.{ending_line, status_of, SaysLast, WithinLast}
 use Rattle.dd_answers.specs.Opening.{ending_of, IsUnserved}
 use Rattle.dd_answers.proofs.Ended.{Stops, stops, quiet_fault, refuses_first, unopened_within, unopened_behind, by_three, fault_asked, fault_status, quiet_behind, refuses_so}
+use Rattle.dd_loop.proofs.Lastly.{ending_since, ending_later}
 use Rattle.dd_gen.specs.Large.{LeavesGenerated, TellsSums}
 use Rattle.dd_gen.proofs.Ended.{caused_amid, opening_cause, quiet_cause, tells_since, unopened_tells}
 use Rattle.dd_gen.proofs.opening.generate.Goals as goal
@@ -65,6 +66,10 @@ returns-in-Err-clause-caused g c = (
   c.finish.ensures.status ∙ ap status_of c.ending_of-ending.ensures,
   caused_amid (Unit {0}) (Unit {0}) (λ h. h) (ending_of c.in-Err.fault) (g.R.Rig.counts c.args.rig.now) (g.R.Rig.counts c.args.rig.now) (g.R.Rig.counts c.open_store.new.rig) (g.R.Rig.counts c.finish.new.rig)
       (falls_self (g.R.Rig.counts c.args.rig.now)) c.finish.ensures.frame.0 (opening_cause c.in-Err.fault (g.R.Rig.counts c.args.rig.now) (g.R.Rig.counts c.open_store.new.rig) c.in-Err.ensures.cause),
+  λ t.
+      ending_since (ending_of c.in-Err.fault) (g.R.Rig.counts c.args.rig.now) (g.R.Rig.counts c.open_store.new.rig) (g.R.Rig.counts c.finish.new.rig) (g.R.Rig.world c.args.rig.now) (g.R.Rig.world c.open_store.new.rig)
+      (g.R.Rig.world c.finish.new.rig) c.open_store.ensures.frame.0 (λ first. c.open_store.ensures.said t)
+      (subst (λ (e : Ending). SaysLast (ending_line e) (g.R.Rig.counts c.open_store.new.rig) (g.R.Rig.counts c.finish.new.rig) (g.R.Rig.world c.open_store.new.rig) (g.R.Rig.world c.finish.new.rig)) c.ending_of-ending.ensures (c.finish.ensures.said t)),
 )
 
 pub returns-in-Err-clause-asked : goal.returns-in-Err-clause-asked
@@ -121,6 +126,9 @@ returns-in-Ok-clause-caused g c =
       h.1,
       caused_amid ⊥ (Unit {0}) (λ never. absurd never) h.0 (g.R.Rig.counts c.args.rig.now) (g.R.Rig.counts c.open_store.new.rig) (g.R.Rig.counts c.end_store.new.rig) (g.R.Rig.counts c.end_store.new.rig)
           c.open_store.ensures.frame.0 (falls_self (g.R.Rig.counts c.end_store.new.rig)) h.2,
+      λ t.
+          ending_later h.0 (g.R.Rig.counts c.args.rig.now) (g.R.Rig.counts c.open_store.new.rig) (g.R.Rig.counts c.end_store.new.rig) (g.R.Rig.world c.args.rig.now) (g.R.Rig.world c.open_store.new.rig) (g.R.Rig.world c.end_store.new.rig)
+          c.open_store.ensures.frame.0 (c.open_store.ensures.said t) (h.3 t),
     )
 
 pub returns-in-Ok-clause-unopened : goal.returns-in-Ok-clause-unopened

@@ -10,11 +10,13 @@ use Rattle.dd_rig.specs.Device.{Device, IsImage}
 use Rattle.dd_script.specs.declared.reply.Reply.TheVariants as reply
 use Rattle.dd_script.specs.Text.{ended, reply_text}
 use Rattle.dd_serve.specs.declared.words.Asked.TheVariants.{Format}
-use Rattle.dd_loop.specs.Ending.{SaysLast, ending_line, status_of}
+use Rattle.dd_loop.specs.Ending.{SaysEnding, SaysLast, ending_line, status_of}
+use Rattle.dd_loop.proofs.Lastly.{ending_since}
+use Rattle.dd_serve.proofs.Endings.{fault_caused, fault_two, formatted_caused}
 use Rattle.dd_serve.specs.Formats.{Formats, ending_of}
 use Rattle.dd_serve.specs.Refusing.{Refuses, small_for, in_use, flash_needs, disk_needs}
 use Rattle.dd_loop.specs.Saying.{SaysAlone}
-use Rattle.dd_serve.proofs.Refused.{says_sooner, last_sooner, refuses_fault, refuses_large, small_none, device_fault, format_leaves, formats_none}
+use Rattle.dd_serve.proofs.Refused.{says_sooner, last_sooner, refuses_fault, refuses_large, small_none, format_leaves, formats_none}
 use Rattle.dd_serve.proofs.format.run_format.Goals as goal
 
 pub returns-in-Ok-clause-crash : goal.returns-in-Ok-clause-crash
@@ -45,8 +47,8 @@ returns-in-Err-clause-refused g c = λ t.
     subst (λ (n : ℕ). Refuses (option_or (small_for (Format c.args.geo) size) (in_use (shown Flash old))) n before after old new) (sym (c.finish.ensures.status ∙ ap status_of c.ending_of.ensures))
     (refuses_large (small_for (Format c.args.geo) size) (in_use (shown Flash old)) (status_of (ending_of why)) before after old new c.requires refuses)
 
-pub returns-in-Err-clause-device : goal.returns-in-Err-clause-device
-returns-in-Err-clause-device g c = λ seven.
+pub returns-in-Err-clause-caused : goal.returns-in-Err-clause-caused
+returns-in-Err-clause-caused g c =
     let why : FormatFault = c.in-Err.fault in
     let old : World = g.R.Rig.world c.args.rig.now in
     let middle : World = g.R.Rig.world c.format_flash.new.rig in
@@ -57,11 +59,29 @@ returns-in-Err-clause-device g c = λ seven.
     let ending : ending_line c.ending_of.result ≡ ending_line (ending_of why) = ap ending_line c.ending_of.ensures in
     let says : (line : List ℕ) → ending_line (ending_of why) ≡ Some line → g.R.Rig.tells → SaysAlone line before after old new = λ line is t. last_sooner (Some line) before between after old middle new c.in-Err.ensures.later.emits (c.in-Err.ensures.said t)
     (subst (λ (o : Option (List ℕ)). SaysLast o between after middle new) (ending ∙ is) (c.finish.ensures.said t)) in
-    device_fault why (λ line. g.R.Rig.tells → SaysAlone line before after old new) before after
+    let caused = fault_caused why (λ line. g.R.Rig.tells → SaysAlone line before after old new) before after
     (λ e. let rose = c.in-Err.ensures.read (ap Err e) in omega (arith, rose, ap (λ (d : Calls). d.failed_reads) c.finish.ensures.idle.0))
     (λ e. let rose = c.in-Err.ensures.write (ap Err e) in omega (arith, rose, ap (λ (d : Calls). d.failed_writes) c.finish.ensures.idle.0))
     (λ e. let rose = c.in-Err.ensures.disk_write (ap Err e) in omega (arith, rose, ap (λ (d : Calls). d.failed_writes) c.finish.ensures.idle.1))
-    says (sym (c.finish.ensures.status ∙ ap status_of c.ending_of.ensures) ∙ seven)
+    says in
+    let is : c.finish.result ≡ status_of (ending_of why) = c.finish.ensures.status ∙ ap status_of c.ending_of.ensures in (
+      ending_of why,
+      is,
+      fault_two why c.finish.result is,
+      caused,
+      λ t.
+          ending_since (ending_of why) before between after old middle new c.in-Err.ensures.later (λ first. c.in-Err.ensures.said t)
+          (subst (λ (o : Option (List ℕ)). SaysLast o between after middle new) ending (c.finish.ensures.said t)),
+    )
+
+pub returns-in-Ok-clause-caused : goal.returns-in-Ok-clause-caused
+returns-in-Ok-clause-caused g c =
+    let old : World = g.R.Rig.world c.args.rig.now in
+    let new : World = g.R.Rig.world c.say_formatted.new.rig in
+    let before = g.R.Rig.counts c.args.rig.now in
+    let after = g.R.Rig.counts c.say_formatted.new.rig in
+    formatted_caused c.say_formatted.result (λ line. g.R.Rig.tells → SaysAlone line before after old new) (λ ending. g.R.Rig.tells → SaysEnding ending before after old new) before after c.say_formatted.ensures.status
+    (λ six. let rose = c.say_formatted.ensures.emit six in omega (arith, rose, c.in-Ok.ensures.later.emits)) (λ t. tt) (λ t. tt)
 
 pub returns-in-Err-clause-formatted : goal.returns-in-Err-clause-formatted
 returns-in-Err-clause-formatted g c = λ t.

@@ -13,18 +13,21 @@ use Rattle.std.specs.Prelude.{if◌then◌else◌}
 use Rattle.dd_script.specs.Text.{stop_text, refusal_text}
 use Rattle.dd_serve.specs.declared.words.Asked.TheVariants.{Replay}
 use Rattle.dd_serve.specs.Refusing.{Refuses, small_for, in_use}
-use Rattle.dd_serve.specs.Replays.{Replays, replay_dialect, plan_sizes}
+use Rattle.dd_serve.specs.Replays.{LooksInVain, Replays, replay_dialect, plan_sizes}
+use Rattle.dd_loop.specs.declared.ending.Ending.TheVariants.{Refused, Stopped}
 use Rattle.dd_loop.specs.Saying.{SaysAlone}
+use Rattle.dd_loop.proofs.Lastly.{alone_since, behind_since, ending_later}
 use Rattle.dd_loop.proofs.Reading.{commands_some}
+use Rattle.dd_serve.proofs.Endings.{replay_behind}
 use Rattle.dd_serve.proofs.Finishing.{stops_alone, stops_early}
 use Rattle.dd_serve.specs.Calls.{looked}
 use Rattle.dd_serve.proofs.Looking.{one_look, looked_falls, asks_looked}
 use Rattle.dd_serve.proofs.Refused.{says_sooner, refuses_fault, refuses_large}
+use Rattle.dd_serve.specs.Laws.{only_both}
+use Rattle.dd_serve.proofs.Written.{only_idle, only_read}
 use Rattle.dd_serve.proofs.replay.run_replay.Goals as goal
 
 pub returns-in-Err-clause-refused : goal.returns-in-Err-clause-refused
-use Rattle.dd_serve.specs.Laws.{only_both}
-use Rattle.dd_serve.proofs.Written.{only_idle, only_read}
 returns-in-Err-clause-refused g c = λ t.
     let size = g.R.Rig.device_size c.args.rig.now in
     let old : World = g.R.Rig.world c.args.rig.now in
@@ -38,8 +41,8 @@ returns-in-Err-clause-refused g c = λ t.
     let refuses : Refuses (in_use (shown Flash old)) 7 before after old new = refuses_fault fault.FlashRead (slice_index (shown Flash old) 0 == 1) before after old new refl tt (λ e. rose) says in
     subst (λ (n : ℕ). Refuses (option_or (small_for (Replay c.args.plan) size) (in_use (shown Flash old))) n before after old new) (sym c.finish.ensures.status) (refuses_large (small_for (Replay c.args.plan) size) (in_use (shown Flash old)) 7 before after old new c.requires.large refuses)
 
-pub returns-in-Err-clause-device : goal.returns-in-Err-clause-device
-returns-in-Err-clause-device g c = λ seven.
+pub returns-in-Err-clause-caused : goal.returns-in-Err-clause-caused
+returns-in-Err-clause-caused g c =
     let old : World = g.R.Rig.world c.args.rig.now in
     let middle : World = g.R.Rig.world c.is_in_use.new.rig in
     let new : World = g.R.Rig.world c.finish.new.rig in
@@ -47,10 +50,48 @@ returns-in-Err-clause-device g c = λ seven.
     let between = g.R.Rig.counts c.is_in_use.new.rig in
     let after = g.R.Rig.counts c.finish.new.rig in
     let rose : Rose before.flash.failed_reads after.flash.failed_reads = omega (arith, c.in-Err.ensures.cause, ap (λ (d : Calls). d.failed_reads) c.finish.ensures.idle.0) in
-    inr (
-      rose,
-      (λ t. says_sooner (stop_text stop.Flash) before between after old middle new c.in-Err.ensures.frame.0.emits (ap (λ (w : World). w.said) (c.in-Err.ensures.world t)) (c.finish.ensures.said t)),
-      one_look c.is_in_use.result before between after c.is_in_use.ensures.counts c.finish.ensures.idle,
+    let is = c.finish.ensures.status in
+    let falls = c.in-Err.ensures.frame.0 in (
+      Stopped stop.Flash,
+      is,
+      (λ two. omega (arith, is, two)),
+      inr (
+        rose,
+        (λ t. says_sooner (stop_text stop.Flash) before between after old middle new falls.emits (ap (λ (w : World). w.said) (c.in-Err.ensures.world t)) (c.finish.ensures.said t)),
+        one_look c.is_in_use.result before between after c.is_in_use.ensures.counts c.finish.ensures.idle,
+      ),
+      λ t. behind_since (stop_text stop.Flash) before between after middle new falls (c.finish.ensures.said t),
+    )
+
+pub returns-in-Ok-true-clause-caused : goal.returns-in-Ok-true-clause-caused
+returns-in-Ok-true-clause-caused g c =
+    let is = c.finish-in-Ok-true.ensures.status in (
+      Refused refusal.InUse,
+      is,
+      (λ two. omega (arith, is, two)),
+      tt,
+      λ t.
+          alone_since (refusal_text refusal.InUse) (g.R.Rig.counts c.args.rig.now) (g.R.Rig.counts c.is_in_use.new.rig) (g.R.Rig.counts c.finish-in-Ok-true.new.rig) (g.R.Rig.world c.args.rig.now) (g.R.Rig.world c.is_in_use.new.rig)
+          (g.R.Rig.world c.finish-in-Ok-true.new.rig) c.is_in_use.ensures.frame.0 (ap (λ (w : World). w.said) (c.is_in_use.ensures.world t)) (c.finish-in-Ok-true.ensures.said t),
+    )
+
+pub returns-in-Ok-false-clause-caused : goal.returns-in-Ok-false-clause-caused
+returns-in-Ok-false-clause-caused g c =
+    let old : World = g.R.Rig.world c.args.rig.now in
+    let middle : World = g.R.Rig.world c.is_in_use.new.rig in
+    let new : World = g.R.Rig.world c.serve_plan.new.rig in
+    let before = g.R.Rig.counts c.args.rig.now in
+    let between = g.R.Rig.counts c.is_in_use.new.rig in
+    let after = g.R.Rig.counts c.serve_plan.new.rig in
+    let falls = c.is_in_use.ensures.frame.0 in
+    let Both : List ℕ → Type 0 = λ line. g.R.Rig.tells → SaysAlone line before after old new in
+    let h = c.serve_plan.ensures.caused in (
+      h.0,
+      h.1,
+      h.2,
+      replay_behind (LooksInVain Both before after) h.0 (λ line. g.R.Rig.tells → SaysAlone line between after middle new) Both before between after (g.S.Source.failures c.args.source.now) (g.S.Source.failures c.serve_plan.new.source) falls
+          (λ line one t. alone_since line before between after old middle new falls (ap (λ (w : World). w.said) (c.is_in_use.ensures.world t)) (one t)) h.3,
+      λ t. ending_later h.0 before between after old middle new falls (ap (λ (w : World). w.said) (c.is_in_use.ensures.world t)) (h.4 t),
     )
 
 pub returns-in-Err-clause-served : goal.returns-in-Err-clause-served

@@ -6,6 +6,7 @@ use Rattle.dd_model.proofs.AlignmentLaws.{aligned-fresh}
 use Rattle.dd_script.specs.Output.{dialect_of}
 use Rattle.dd_script.specs.Script.{commands_of, lines_of}
 use Rattle.dd_store.proofs.Kept.{stands_state}
+use Rattle.dd_loop.specs.Ending.{SaysEnding}
 use Rattle.dd_loop.specs.Saying.{SaysAlone}
 use Rattle.dd_answers.specs.Headline.{sizes_from}
 use Rattle.dd_serve.specs.declared.words.Asked.{Asked}
@@ -13,7 +14,7 @@ use Rattle.dd_serve.specs.Replays.{lines_since, plan_sizes, replay_commands, rep
 use Rattle.dd_serve.specs.Run.{IsCaused, Does, Shows, Leaves, EndsWell, Takes}
 use Rattle.dd_serve.specs.Words.{HasRanges, IsPlan}
 use Rattle.dd_serve.proofs.Ranges.{commands_in}
-use Rattle.dd_serve.proofs.Running.{format_caused, format_ends, replay_caused, replay_ends, small_calls, small_caused, small_leaves}
+use Rattle.dd_serve.proofs.Running.{format_ends, replay_ends, small_calls, small_caused, small_leaves}
 use Rattle.dd_serve.proofs.Starts.{replay_rules}
 use Rattle.dd_serve.proofs.Together.{stats_tell}
 use Rattle.dd_serve.proofs.top.run_asked.Goals as goal
@@ -26,8 +27,8 @@ returns-in-Some-clause-cause g c =
     let new : World = g.R.Rig.world c.finish.new.rig in
     let script = g.S.Source.rest c.args.source.now in
     let size = g.R.Rig.device_size c.args.rig.now in
-    small_caused c.args.asked c.in-Some.why c.finish.result (λ line. g.R.Rig.tells → SaysAlone line before after old new) (c.args.source.now ≡ c.args.source.now) g.S.Source.tells size script
-    before after (g.S.Source.failures c.args.source.now) (g.S.Source.failures c.args.source.now) (sym c.in-Some.is ∙ c.too_small.ensures.why) c.finish.ensures.status c.in-Some.ensures.status
+    small_caused c.args.asked c.in-Some.why c.finish.result (λ line. g.R.Rig.tells → SaysAlone line before after old new) (λ ending. g.R.Rig.tells → SaysEnding ending before after old new) (c.args.source.now ≡ c.args.source.now) g.S.Source.tells size script
+    before after (g.S.Source.failures c.args.source.now) (g.S.Source.failures c.args.source.now) (sym c.in-Some.is ∙ c.too_small.ensures.why) c.finish.ensures.status c.in-Some.ensures.status (λ t. c.finish.ensures.said t)
 
 pub returns-in-Some-clause-calls : goal.returns-in-Some-clause-calls
 returns-in-Some-clause-calls g c = small_calls c.args.asked c.finish.result (g.R.Rig.counts c.args.rig.now) (g.R.Rig.counts c.finish.new.rig) c.finish.ensures.idle
@@ -48,9 +49,8 @@ returns-in-Replay-clause-cause g c =
     let old : World = g.R.Rig.world c.args.rig.now in
     let new : World = g.R.Rig.world c.run_replay.new.rig in
     let script = g.S.Source.rest c.args.source.now in
-    subst (λ (a : Asked). IsCaused a c.run_replay.result (λ line. g.R.Rig.tells → SaysAlone line before after old new) (c.run_replay.new.source ≡ c.args.source.now) g.S.Source.tells script before after (g.S.Source.failures c.args.source.now) (g.S.Source.failures c.run_replay.new.source)) (sym c.in-Replay.is)
-    (replay_caused c.run_replay.result (λ line. g.R.Rig.tells → SaysAlone line before after old new) before after (g.S.Source.failures c.args.source.now) (g.S.Source.failures c.run_replay.new.source)
-    c.run_replay.ensures.status c.run_replay.ensures.script c.run_replay.ensures.emit c.run_replay.ensures.device (λ four t. c.run_replay.ensures.memory t four))
+    subst (λ (a : Asked). IsCaused a c.run_replay.result (λ line. g.R.Rig.tells → SaysAlone line before after old new) (λ ending. g.R.Rig.tells → SaysEnding ending before after old new) (c.run_replay.new.source ≡ c.args.source.now) g.S.Source.tells script before after (g.S.Source.failures c.args.source.now) (g.S.Source.failures c.run_replay.new.source)) (sym c.in-Replay.is)
+    c.run_replay.ensures.caused
 
 pub returns-in-Replay-clause-calls : goal.returns-in-Replay-clause-calls
 returns-in-Replay-clause-calls g c =
@@ -88,8 +88,8 @@ returns-in-Replay-clause-quiet g c = λ t quiet.
     let script = g.S.Source.rest c.args.source.now in
     let size = g.R.Rig.device_size c.args.rig.now in
     subst (λ (a : Asked). EndsWell printed a c.run_replay.result (g.S.Source.tells × IsStill (g.S.Source.failures c.args.source.now) (g.S.Source.failures c.run_replay.new.source)) size script old) (sym c.in-Replay.is)
-    (replay_ends printed c.in-Replay.plan c.run_replay.result g.S.Source.tells (λ line. g.R.Rig.tells → SaysAlone line before after old new) size script before after old new (g.S.Source.failures c.args.source.now) (g.S.Source.failures c.run_replay.new.source)
-    c.run_replay.ensures.status (c.run_replay.ensures.refused t) c.run_replay.ensures.script c.run_replay.ensures.emit c.run_replay.ensures.device (c.run_replay.ensures.served t) quiet)
+    (replay_ends printed c.in-Replay.plan c.run_replay.result g.S.Source.tells (λ line. g.R.Rig.tells → SaysAlone line before after old new) (λ ending. g.R.Rig.tells → SaysEnding ending before after old new) size script before after old new (g.S.Source.failures c.args.source.now) (g.S.Source.failures c.run_replay.new.source)
+    c.run_replay.ensures.status (c.run_replay.ensures.refused t) c.run_replay.ensures.caused (c.run_replay.ensures.served t) quiet)
 
 pub returns-in-Format-clause-cause : goal.returns-in-Format-clause-cause
 returns-in-Format-clause-cause g c =
@@ -98,8 +98,8 @@ returns-in-Format-clause-cause g c =
     let old : World = g.R.Rig.world c.args.rig.now in
     let new : World = g.R.Rig.world c.run_format.new.rig in
     let script = g.S.Source.rest c.args.source.now in
-    subst (λ (a : Asked). IsCaused a c.run_format.result (λ line. g.R.Rig.tells → SaysAlone line before after old new) (c.args.source.now ≡ c.args.source.now) g.S.Source.tells script before after (g.S.Source.failures c.args.source.now) (g.S.Source.failures c.args.source.now)) (sym c.in-Format.is)
-    (format_caused c.run_format.result (λ line. g.R.Rig.tells → SaysAlone line before after old new) before after c.run_format.ensures.status c.run_format.ensures.emit c.run_format.ensures.device)
+    subst (λ (a : Asked). IsCaused a c.run_format.result (λ line. g.R.Rig.tells → SaysAlone line before after old new) (λ ending. g.R.Rig.tells → SaysEnding ending before after old new) (c.args.source.now ≡ c.args.source.now) g.S.Source.tells script before after (g.S.Source.failures c.args.source.now) (g.S.Source.failures c.args.source.now)) (sym c.in-Format.is)
+    c.run_format.ensures.caused
 
 pub returns-in-Format-clause-crash : goal.returns-in-Format-clause-crash
 returns-in-Format-clause-crash g c = λ t.
@@ -120,8 +120,19 @@ returns-in-Format-clause-quiet g c = λ t quiet.
     let script = g.S.Source.rest c.args.source.now in
     let size = g.R.Rig.device_size c.args.rig.now in
     subst (λ (a : Asked). EndsWell printed a c.run_format.result (g.S.Source.tells × IsStill (g.S.Source.failures c.args.source.now) (g.S.Source.failures c.args.source.now)) size script old) (sym c.in-Format.is)
-    (format_ends printed c.in-Format.geo c.run_format.result (g.S.Source.tells × IsStill (g.S.Source.failures c.args.source.now) (g.S.Source.failures c.args.source.now)) (λ line. g.R.Rig.tells → SaysAlone line before after old new) size script before after old new
-    c.run_format.ensures.status (c.run_format.ensures.refused t) c.run_format.ensures.emit c.run_format.ensures.device quiet)
+    (format_ends printed c.in-Format.geo c.run_format.result (g.S.Source.tells × IsStill (g.S.Source.failures c.args.source.now) (g.S.Source.failures c.args.source.now)) (λ line. g.R.Rig.tells → SaysAlone line before after old new) (λ ending. g.R.Rig.tells → SaysEnding ending before after old new) size script before after old new
+    c.run_format.ensures.status (c.run_format.ensures.refused t) c.run_format.ensures.caused quiet)
+
+pub returns-in-Serve-clause-cause : goal.returns-in-Serve-clause-cause
+returns-in-Serve-clause-cause g c =
+    let before = g.R.Rig.counts c.args.rig.now in
+    let after = g.R.Rig.counts c.serve.new.rig in
+    let old : World = g.R.Rig.world c.args.rig.now in
+    let new : World = g.R.Rig.world c.serve.new.rig in
+    let script = g.S.Source.rest c.args.source.now in
+    let h = c.serve.ensures.caused in
+    subst (λ (a : Asked). IsCaused a c.serve.result (λ line. g.R.Rig.tells → SaysAlone line before after old new) (λ ending. g.R.Rig.tells → SaysEnding ending before after old new) (c.serve.new.source ≡ c.args.source.now) g.S.Source.tells script before after (g.S.Source.failures c.args.source.now) (g.S.Source.failures c.serve.new.source)) (sym c.in-Serve.is)
+    (h.0, h.1, c.serve.ensures.asked, h.2, h.3)
 
 pub returns-in-Serve-clause-shown : goal.returns-in-Serve-clause-shown
 returns-in-Serve-clause-shown g c = λ t.
@@ -167,6 +178,17 @@ returns-in-Serve-clause-source g c =
     let script = g.S.Source.rest c.args.source.now in
     subst (λ (a : Asked). Takes printed a c.serve.result (c.serve.new.source ≡ c.args.source.now) g.S.Source.tells (g.R.Rig.tells × g.S.Source.tells) (g.R.Rig.device_size c.args.rig.now Disk) script (g.S.Source.rest c.serve.new.source) old) (sym c.in-Serve.is)
     ((λ none. (c.serve.ensures.untaken none).0, λ both from small. c.serve.ensures.taken both.0 both.1 from small))
+
+pub returns-in-Gen-clause-cause : goal.returns-in-Gen-clause-cause
+returns-in-Gen-clause-cause g c =
+    let before = g.R.Rig.counts c.args.rig.now in
+    let after = g.R.Rig.counts c.generate.new.rig in
+    let old : World = g.R.Rig.world c.args.rig.now in
+    let new : World = g.R.Rig.world c.generate.new.rig in
+    let script = g.S.Source.rest c.args.source.now in
+    let h = c.generate.ensures.caused in
+    subst (λ (a : Asked). IsCaused a c.generate.result (λ line. g.R.Rig.tells → SaysAlone line before after old new) (λ ending. g.R.Rig.tells → SaysEnding ending before after old new) (c.args.source.now ≡ c.args.source.now) g.S.Source.tells script before after (g.S.Source.failures c.args.source.now) (g.S.Source.failures c.args.source.now)) (sym c.in-Gen.is)
+    (h.0, h.1, c.generate.ensures.asked, h.2, h.3)
 
 pub returns-in-Gen-clause-shown : goal.returns-in-Gen-clause-shown
 returns-in-Gen-clause-shown g c = λ t.
