@@ -63,7 +63,8 @@ abbrev pub SaysBehind : List ℕ → Counts → Counts → World → Type 0
 SaysBehind line before after new =
     (front : List ℕ) × ((new.said ≡ front ++ ended line) ⊎ (Rose before.failed_emits after.failed_emits × (n : ℕ) × (new.said ≡ front ++ take n (ended line))))
 
--- The line of each ending: a run that was refused, or had no memory, says it and nothing else, and one that stopped behind all else.
+-- What the output tells of each ending. A run that was refused, or had no memory, says the line of that and nothing else. One that stopped
+-- for another cause says its line last.
 abbrev pub SaysEnding : Ending → Counts → Counts → World → World → Type 0
 SaysEnding (Served faulted) before after old new = ⊤
 SaysEnding (Refused why) before after old new = SaysAlone (refusal_text why) before after old new
