@@ -27,6 +27,7 @@ use Rattle.dd_loop.specs.declared.halt.Halt.TheVariants as halts
 use Rattle.dd_loop.specs.Ending.{ending_line, refused_status, status_of, stopped_status, SaysLast, WithinLast}
 use Rattle.dd_loop.specs.Saying.{EndsIn, SaysAlone}
 use Rattle.dd_loop.specs.Serving.{ServedUpTo}
+use Rattle.dd_loop.proofs.Lastly.{alone_since}
 use Rattle.dd_loop.proofs.Reading.{commands_some}
 use Rattle.dd_store.specs.Serving.{StoreOf}
 use Rattle.dd_answers.specs.Headline.{IsUnopened}
@@ -256,10 +257,6 @@ module _ (line : List ℕ) (before between after : Counts) (falls : NeverFalls b
   ends_since output (front, whole, inl is) = (front, whole, inl is)
   ends_since output (front, whole, inr cut) = (front, whole, inr (omega (arith, cut.0, falls.emits), cut.1, cut.2))
 
-  pub says_since : (old middle new : World) → middle.said ≡ old.said → SaysAlone line between after middle new → SaysAlone line before after old new
-  says_since old middle new same (inl is) = inl (is ∙ ap (λ (l : List ℕ). l ++ ended line) same)
-  says_since old middle new same (inr cut) = inr (omega (arith, cut.0, falls.emits), cut.1, cut.2 ∙ ap (λ (l : List ℕ). l ++ take cut.1 (ended line)) same)
-
 -- the opening syncs the disk at most
 pub opened_calls : (flash : Quota) (a b : Counts) → Makes flash (up_to 0 1 0) a b → calls_of b.disk ≤ calls_of a.disk + 1
 opened_calls flash a b makes = omega (arith, makes.1.0, makes.1.1)
@@ -301,7 +298,7 @@ refuses_so fault size before between after old middle new first ending is falls 
   first = first.0;
   why = first.1;
   refuses = first.2;
-  says = says_since (refusal_text first.1) before between after falls old middle new same (subst (λ (e : Ending). SaysLast (ending_line e) between after middle new) (is ∙ first.2) says);
+  says = alone_since (refusal_text first.1) before between after old middle new falls same (subst (λ (e : Ending). SaysLast (ending_line e) between after middle new) (is ∙ first.2) says);
   flash_same = ap (λ (d : Device). d.shown) devices.0 ∙ shows dev.Flash;
   disk_same = ap (λ (d : Device). d.shown) devices.1 ∙ shows dev.Disk;
 }

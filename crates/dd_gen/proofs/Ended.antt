@@ -25,11 +25,12 @@ use Rattle.dd_loop.specs.declared.ending.Ending.{Ending}
 use Rattle.dd_loop.specs.declared.ending.Ending.TheVariants.{Served, Refused, Stopped, Unheard}
 use Rattle.dd_loop.specs.Ending.{ending_line, status_of, SaysLast, WithinLast}
 use Rattle.dd_loop.specs.Standing.{AllStand}
+use Rattle.dd_loop.proofs.Lastly.{alone_since}
 use Rattle.dd_answers.specs.Answering.{StandsBy}
 use Rattle.dd_script.specs.declared.reply.Sums.{Sums}
 use Rattle.dd_answers.specs.Opening.{ending_of}
 use Rattle.dd_answers.proofs.Lasting.{said_some}
-use Rattle.dd_answers.proofs.Ended.{Stops, says_since}
+use Rattle.dd_answers.proofs.Ended.{Stops}
 use Rattle.dd_gen.specs.Generator.{generated}
 use Rattle.dd_gen.specs.Running.{state_at, sums_at, StandsWithin, Holding}
 use Rattle.dd_gen.specs.Large.{both_lines, last_lines, stopped_by, Caused, CommitEnds, IsFront, LeavesGenerated, RunEnds, SaysEnd, SaysFront, Tells, TellsSums, WithinCommit}
@@ -142,7 +143,7 @@ pub last_tells : (print : List ℕ → Fp) (sizes : Sizes) (start : State) (seed
     → RunEnds print sizes start seed count ending old.said middle → SaysLast (ending_line ending) between after middle new → Tells print sizes start seed count ending before after old new
 last_tells print sizes start seed count (Served faulted) old middle new before between after falls h says = says ∙ h.0.1
 last_tells print sizes start seed count (Refused why) old middle new before between after falls h says = absurd h
-last_tells print sizes start seed count (Stopped why) old middle new before between after falls h says = says_since (stop_text why) before between after falls old middle new h.0 says
+last_tells print sizes start seed count (Stopped why) old middle new before between after falls h says = alone_since (stop_text why) before between after old middle new falls h.0 says
 last_tells print sizes start seed count Unheard old middle new before between after falls h says = (h.0.0, says ∙ h.0.1, h.0.2)
 
 -- a cause stays one between other calls
@@ -241,7 +242,7 @@ pub unopened_tells : (f : OpenFault) (s : Stops f) (print : List ℕ → Fp) (si
     → SaysLast (ending_line (ending_of f)) between after middle new → Tells print sizes start seed count (ending_of f) before after old new
 unopened_tells f s print sizes start seed count old middle new before between after falls same says =
     subst (λ (e : Ending). Tells print sizes start seed count e before after old new) (sym s.is)
-    (says_since (stop_text s.why) before between after falls old middle new same (subst (λ (e : Ending). SaysLast (ending_line e) between after middle new) s.is says))
+    (alone_since (stop_text s.why) before between after old middle new falls same (subst (λ (e : Ending). SaysLast (ending_line e) between after middle new) s.is says))
 
 -- what is said behind calls that say nothing
 pub tells_since : (print : List ℕ → Fp) (sizes : Sizes) (start : State) (seed count status : ℕ) (old middle new : World) (before between after : Counts) → NeverFalls before between → middle.said ≡ old.said
@@ -251,5 +252,5 @@ tells_since print sizes start seed count status old middle new before between af
     since : (ending : Ending) → Tells print sizes start seed count ending between after middle new → Tells print sizes start seed count ending before after old new
     since (Served faulted) says = says ∙ ap (λ (l : List ℕ). l ++ last_lines print sizes start seed count) same
     since (Refused why) says = absurd says
-    since (Stopped why) says = says_since (stop_text why) before between after falls old middle new same says
+    since (Stopped why) says = alone_since (stop_text why) before between after old middle new falls same says
     since Unheard says = (says.0, says.1 ∙ ap (λ (l : List ℕ). l ++ says.0) same, says.2)

@@ -1,11 +1,11 @@
 -- What is refused, and what a format says.
-use Rattle.std.proofs.Common.{take, ◌≡◌, ◌⊎◌, inl, inr, ⊎_elim, ◌∙◌, ◌≤◌, ◌++◌, ℕ, List, Bool, true, false, refl, sym, ap, subst, arith, Some, None}
+use Rattle.std.proofs.Common.{◌≡◌, ◌⊎◌, inl, inr, ⊎_elim, ◌∙◌, ℕ, List, Bool, true, false, refl, sym, subst, arith, Some, None}
 use Rattle.std.specs.Prelude.{Option, Err, if◌then◌else◌}
 use Rattle.std.specs.Option.{option_or}
 use Rattle.dd_block.specs.declared.print.Fp.{Fp}
 use Rattle.dd_block.specs.declared.geometry.Geometry.{Geometry}
 use Rattle.dd_rig.specs.declared.tallies.Counts.{Counts}
-use Rattle.dd_rig.specs.Counts.{Rose}
+use Rattle.dd_rig.specs.Counts.{NeverFalls, Rose}
 use Rattle.dd_rig.specs.Clock.{Clock, Elapses}
 use Rattle.dd_rig.specs.Device.{IsImage}
 use Rattle.dd_rig.specs.World.{World, Outcome}
@@ -16,21 +16,15 @@ use Rattle.dd_recover.specs.Formatting.{TellsSmall, TellsFault, IsUnusedOrFormat
 use Rattle.dd_rig.specs.World.{IsOwn}
 use Rattle.dd_script.specs.declared.reply.Refusal.{Refusal}
 use Rattle.dd_script.specs.declared.reply.Refusal.TheVariants as refusal
-use Rattle.dd_script.specs.Text.{ended}
-use Rattle.dd_loop.specs.Saying.{SaysAlone}
 use Rattle.dd_loop.specs.Ending.{SaysLast, ending_line, status_of}
+use Rattle.dd_loop.proofs.Lastly.{alone_since}
 use Rattle.dd_serve.specs.Formats.{ending_of, FormatLeaves, Formats}
 use Rattle.dd_serve.specs.Refusing.{Refuses}
 
--- a line is alone over a part of a run in front of which nothing was said
-pub says_sooner : (line : List ℕ) (a b d : Counts) (old middle new : World) → a.failed_emits ≤ b.failed_emits → middle.said ≡ old.said → SaysAlone line b d middle new → SaysAlone line a d old new
-says_sooner line a b d old middle new fewer same (inl said) = inl (said ∙ ap (λ (l : List ℕ). l ++ ended line) same)
-says_sooner line a b d old middle new fewer same (inr (rose, n, said)) = inr (omega (arith, rose), n, said ∙ ap (λ (l : List ℕ). l ++ take n (ended line)) same)
-
--- the same of the last line, where there is one
-pub last_sooner : (o : Option (List ℕ)) (a b d : Counts) (old middle new : World) → a.failed_emits ≤ b.failed_emits → middle.said ≡ old.said → SaysLast o b d middle new → SaysLast o a d old new
-last_sooner None a b d old middle new fewer same said = said ∙ same
-last_sooner (Some line) a b d old middle new fewer same said = says_sooner line a b d old middle new fewer same said
+-- the last line of a run, where there is one, in front of which nothing was said
+pub last_sooner : (o : Option (List ℕ)) (a b d : Counts) (old middle new : World) → NeverFalls a b → middle.said ≡ old.said → SaysLast o b d middle new → SaysLast o a d old new
+last_sooner None a b d old middle new falls same said = said ∙ same
+last_sooner (Some line) a b d old middle new falls same said = alone_since line a b d old middle new falls same said
 
 -- what a fault of a format says and answers is the first condition's, where byte 0 is 1 or isn't
 pub refuses_fault : (why : FormatFault) (used : Bool) (a d : Counts) (old new : World) → TellsSmall (Err why) None → TellsFault (Err why) (if used then Some fault.InUse else None)

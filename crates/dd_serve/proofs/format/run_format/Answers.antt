@@ -11,12 +11,12 @@ use Rattle.dd_script.specs.declared.reply.Reply.TheVariants as reply
 use Rattle.dd_script.specs.Text.{ended, reply_text}
 use Rattle.dd_serve.specs.declared.words.Asked.TheVariants.{Format}
 use Rattle.dd_loop.specs.Ending.{SaysEnding, SaysLast, ending_line, status_of}
-use Rattle.dd_loop.proofs.Lastly.{ending_since}
+use Rattle.dd_loop.proofs.Lastly.{alone_since, ending_since}
 use Rattle.dd_serve.proofs.Endings.{fault_caused, fault_two, formatted_caused}
 use Rattle.dd_serve.specs.Formats.{Formats, ending_of}
 use Rattle.dd_serve.specs.Refusing.{Refuses, small_for, in_use, flash_needs, disk_needs}
 use Rattle.dd_loop.specs.Saying.{SaysAlone}
-use Rattle.dd_serve.proofs.Refused.{says_sooner, last_sooner, refuses_fault, refuses_large, small_none, format_leaves, formats_none}
+use Rattle.dd_serve.proofs.Refused.{last_sooner, refuses_fault, refuses_large, small_none, format_leaves, formats_none}
 use Rattle.dd_serve.proofs.format.run_format.Goals as goal
 
 pub returns-in-Ok-clause-crash : goal.returns-in-Ok-clause-crash
@@ -40,7 +40,7 @@ returns-in-Err-clause-refused g c = λ t.
     let small : TellsSmall (Err why) None = subst (λ (o : Option FormatFault). TellsSmall (Err why) o) large c.in-Err.ensures.small in
     let first : TellsFault (Err why) (in_use_fault (shown Flash old)) = subst (λ (o : Option FormatFault). TellsFault (Err why) (option_or o (in_use_fault (shown Flash old)))) large (c.in-Err.ensures.fault t) in
     let ending : ending_line c.ending_of.result ≡ ending_line (ending_of why) = ap ending_line c.ending_of.ensures in
-    let says : SaysLast (ending_line (ending_of why)) before after old new = last_sooner (ending_line (ending_of why)) before between after old middle new c.in-Err.ensures.later.emits (c.in-Err.ensures.said t)
+    let says : SaysLast (ending_line (ending_of why)) before after old new = last_sooner (ending_line (ending_of why)) before between after old middle new c.in-Err.ensures.later (c.in-Err.ensures.said t)
     (subst (λ (o : Option (List ℕ)). SaysLast o between after middle new) ending (c.finish.ensures.said t)) in
     let refuses : Refuses (in_use (shown Flash old)) (status_of (ending_of why)) before after old new = refuses_fault why used before after old new small first
     (λ e. let rose = c.in-Err.ensures.read (ap Err e) in omega (arith, rose, ap (λ (d : Calls). d.failed_reads) c.finish.ensures.idle.0)) says in
@@ -57,7 +57,7 @@ returns-in-Err-clause-caused g c =
     let between = g.R.Rig.counts c.format_flash.new.rig in
     let after = g.R.Rig.counts c.finish.new.rig in
     let ending : ending_line c.ending_of.result ≡ ending_line (ending_of why) = ap ending_line c.ending_of.ensures in
-    let says : (line : List ℕ) → ending_line (ending_of why) ≡ Some line → g.R.Rig.tells → SaysAlone line before after old new = λ line is t. last_sooner (Some line) before between after old middle new c.in-Err.ensures.later.emits (c.in-Err.ensures.said t)
+    let says : (line : List ℕ) → ending_line (ending_of why) ≡ Some line → g.R.Rig.tells → SaysAlone line before after old new = λ line is t. last_sooner (Some line) before between after old middle new c.in-Err.ensures.later (c.in-Err.ensures.said t)
     (subst (λ (o : Option (List ℕ)). SaysLast o between after middle new) (ending ∙ is) (c.finish.ensures.said t)) in
     let caused = fault_caused why (λ line. g.R.Rig.tells → SaysAlone line before after old new) before after
     (λ e. let rose = c.in-Err.ensures.read (ap Err e) in omega (arith, rose, ap (λ (d : Calls). d.failed_reads) c.finish.ensures.idle.0))
@@ -97,7 +97,7 @@ returns-in-Ok-clause-formatted g c = λ t.
     let line : List ℕ = reply_text reply.Formatted in
     record {
       exact = λ e. c.say_formatted.ensures.exact t e ∙ ap (λ (l : List ℕ). l ++ ended line) (c.in-Ok.ensures.said t);
-      cut = λ e. says_sooner line (g.R.Rig.counts c.args.rig.now) (g.R.Rig.counts c.format_flash.new.rig) (g.R.Rig.counts c.say_formatted.new.rig) old middle new c.in-Ok.ensures.later.emits (c.in-Ok.ensures.said t) (c.say_formatted.ensures.said t);
+      cut = λ e. alone_since line (g.R.Rig.counts c.args.rig.now) (g.R.Rig.counts c.format_flash.new.rig) (g.R.Rig.counts c.say_formatted.new.rig) old middle new c.in-Ok.ensures.later (c.in-Ok.ensures.said t) (c.say_formatted.ensures.said t);
       done = λ ends print flash disk a b. c.in-Ok.ensures.ok t print flash disk
           (subst (λ (d : Device). IsImage d flash) (c.say_formatted.ensures.devices t).0 a) (subst (λ (d : Device). IsImage d disk) (c.say_formatted.ensures.devices t).1 b);
     }

@@ -22,7 +22,7 @@ use Rattle.dd_serve.proofs.Endings.{replay_behind}
 use Rattle.dd_serve.proofs.Finishing.{stops_alone, stops_early}
 use Rattle.dd_serve.specs.Calls.{looked}
 use Rattle.dd_serve.proofs.Looking.{one_look, looked_falls, asks_looked}
-use Rattle.dd_serve.proofs.Refused.{says_sooner, refuses_fault, refuses_large}
+use Rattle.dd_serve.proofs.Refused.{refuses_fault, refuses_large}
 use Rattle.dd_serve.specs.Laws.{only_both}
 use Rattle.dd_serve.proofs.Written.{only_idle, only_read}
 use Rattle.dd_serve.proofs.replay.run_replay.Goals as goal
@@ -36,7 +36,7 @@ returns-in-Err-clause-refused g c = λ t.
     let before = g.R.Rig.counts c.args.rig.now in
     let between = g.R.Rig.counts c.is_in_use.new.rig in
     let after = g.R.Rig.counts c.finish.new.rig in
-    let says : SaysAlone (stop_text stop.Flash) before after old new = says_sooner (stop_text stop.Flash) before between after old middle new c.in-Err.ensures.frame.0.emits (ap (λ (w : World). w.said) (c.in-Err.ensures.world t)) (c.finish.ensures.said t) in
+    let says : SaysAlone (stop_text stop.Flash) before after old new = alone_since (stop_text stop.Flash) before between after old middle new c.in-Err.ensures.frame.0 (ap (λ (w : World). w.said) (c.in-Err.ensures.world t)) (c.finish.ensures.said t) in
     let rose : Rose before.flash.failed_reads after.flash.failed_reads = omega (arith, c.in-Err.ensures.cause, ap (λ (d : Calls). d.failed_reads) c.finish.ensures.idle.0) in
     let refuses : Refuses (in_use (shown Flash old)) 7 before after old new = refuses_fault fault.FlashRead (slice_index (shown Flash old) 0 == 1) before after old new refl tt (λ e. rose) says in
     subst (λ (n : ℕ). Refuses (option_or (small_for (Replay c.args.plan) size) (in_use (shown Flash old))) n before after old new) (sym c.finish.ensures.status) (refuses_large (small_for (Replay c.args.plan) size) (in_use (shown Flash old)) 7 before after old new c.requires.large refuses)
@@ -57,7 +57,7 @@ returns-in-Err-clause-caused g c =
       (λ two. omega (arith, is, two)),
       inr (
         rose,
-        (λ t. says_sooner (stop_text stop.Flash) before between after old middle new falls.emits (ap (λ (w : World). w.said) (c.in-Err.ensures.world t)) (c.finish.ensures.said t)),
+        (λ t. alone_since (stop_text stop.Flash) before between after old middle new falls (ap (λ (w : World). w.said) (c.in-Err.ensures.world t)) (c.finish.ensures.said t)),
         one_look c.is_in_use.result before between after c.is_in_use.ensures.counts c.finish.ensures.idle,
       ),
       λ t. behind_since (stop_text stop.Flash) before between after middle new falls (c.finish.ensures.said t),
@@ -120,7 +120,7 @@ returns-in-Ok-true-clause-refused g c = λ t.
     let between = g.R.Rig.counts c.is_in_use.new.rig in
     let after = g.R.Rig.counts c.finish-in-Ok-true.new.rig in
     let is : (slice_index (shown Flash old) 0 == 1) ≡ true = sym (c.in-Ok-true.ensures.used t) ∙ c.in-Ok-true.field-0-test in
-    let says : SaysAlone (refusal_text refusal.InUse) before after old new = says_sooner (refusal_text refusal.InUse) before between after old (g.R.Rig.world c.is_in_use.new.rig) new c.is_in_use.ensures.frame.0.emits (ap (λ (w : World). w.said) (c.is_in_use.ensures.world t)) (c.finish-in-Ok-true.ensures.said t) in
+    let says : SaysAlone (refusal_text refusal.InUse) before after old new = alone_since (refusal_text refusal.InUse) before between after old (g.R.Rig.world c.is_in_use.new.rig) new c.is_in_use.ensures.frame.0 (ap (λ (w : World). w.said) (c.is_in_use.ensures.world t)) (c.finish-in-Ok-true.ensures.said t) in
     let refuses : Refuses (in_use (shown Flash old)) 3 before after old new = subst (λ (b : Bool). Refuses (if b then Some refusal.InUse else None) 3 before after old new) (sym is) (inl (refl, says)) in
     subst (λ (n : ℕ). Refuses (option_or (small_for (Replay c.args.plan) size) (in_use (shown Flash old))) n before after old new) (sym c.finish-in-Ok-true.ensures.status)
     (refuses_large (small_for (Replay c.args.plan) size) (in_use (shown Flash old)) 3 before after old new c.requires.large refuses)
