@@ -3,11 +3,9 @@
 ghost use Rattle.std.specs.Prelude.{◌≡◌};
 
 use crate::bench::{Setting, run, run_sha256, worked_disk};
-use crate::small::{FLASH, formatted};
+use crate::small::formatted;
 use dd_rig::Dev;
 use dd_rigmem::{Call, Fail};
-use std::alloc::Global;
-use std::process::Abort;
 use std::test::Fail as Stop;
 
 const SERVE: [&str; 1] = ["serve"];
@@ -167,74 +165,6 @@ fn a_dirty_address_that_is_evicted_or_cleaned_is_on_the_disk(rt: HostRuntime) ->
         assert_eq!(rt; ran.left.out.as_slice(), want, "{script:?}");
         assert_eq!(rt; ran.status, 0, "{script:?}");
         assert_eq!(rt; ran.left.disk.as_slice(), left.as_slice(), "{script:?}");
-    }
-    Ok(())
-}
-
-// This flash is refused with 3 and this line, and both devices stay.
-fn refuses(
-    rt: &impl Abort,
-    alloc: Global,
-    flash: &[u8],
-    disk: &[u8],
-    want: &[u8],
-) -> Result<(), Stop> {
-    let ran = run(alloc, &setting(flash, disk, b"r 0\n"))?;
-    assert_eq!(rt; ran.left.out.as_slice(), want);
-    assert_eq!(rt; ran.status, 3);
-    assert_eq!(rt; ran.left.flash.as_slice(), flash);
-    assert_eq!(rt; ran.left.disk.as_slice(), disk);
-    Ok(())
-}
-
-#[test]
-fn devices_that_cannot_be_opened_are_refused(rt: HostRuntime) -> Result<(), Stop> {
-    let alloc = rt.alloc();
-    let disk = worked_disk();
-    let zeros = vec![in alloc; 0; FLASH]?;
-    refuses(&rt, alloc, &zeros, &disk, b"refused super gate 0\n")?;
-    refuses(&rt, alloc, &[0; 63], &disk, b"refused flash small 64 63\n")?;
-    let whole = formatted(alloc)?;
-    refuses(
-        &rt,
-        alloc,
-        &whole,
-        &[5; 127],
-        b"refused disk small 128 127\n",
-    )?;
-    let mut short = formatted(alloc)?;
-    short.truncate(1369);
-    refuses(
-        &rt,
-        alloc,
-        &short,
-        &disk,
-        b"refused flash small 1370 1369\n",
-    )
-}
-
-#[test]
-fn a_damaged_byte_is_told_by_its_place(rt: HostRuntime) -> Result<(), Stop> {
-    let rows: [(usize, u8, &[u8]); 10] = [
-        (4, 0, b"refused super magic\n"),
-        (12, 17, b"refused super geometry block 17\n"),
-        (50, 2, b"refused super padding 50\n"),
-        (64, 0, b"refused no region\n"),
-        (65, 0, b"refused snapshot 0 65\n"),
-        (68, 9, b"refused snapshot 0 65\n"),
-        (69, 1, b"refused version 1\n"),
-        (89, 9, b"refused snapshot 0 89\n"),
-        (93, 9, b"refused snapshot 0 93\n"),
-        (97, 1, b"refused group 0 98\n"),
-    ];
-    let alloc = rt.alloc();
-    let disk = worked_disk();
-    for (at, byte, want) in rows {
-        let mut flash = formatted(alloc)?;
-        if at < flash.len() {
-            flash[at] = byte;
-        }
-        refuses(&rt, alloc, &flash, &disk, want)?;
     }
     Ok(())
 }

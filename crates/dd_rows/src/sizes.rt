@@ -1,5 +1,5 @@
-// Runs of `serve` over other capacities and block sizes than those of the small cache, the longest line,
-// records that don't fit, and the sync of a commit's gate.
+// Runs of `serve` over other capacities and block sizes than those of the small cache, the sync of a commit's gate,
+// and both first syncs.
 ghost use Rattle.std.specs.Prelude.{◌≡◌};
 
 use crate::bench::{Setting, run, worked_disk};
@@ -91,44 +91,6 @@ fn digits(alloc: Global, block: &[u8]) -> Result<Vec<u8>, Stop> {
         text.extend_from_slice(b"5a")?;
     }
     Ok(text)
-}
-
-#[test]
-fn a_line_of_8449_bytes_is_too_long(rt: HostRuntime) -> Result<(), Stop> {
-    let alloc = rt.alloc();
-    let flash = formatted(alloc)?;
-    let disk = worked_disk();
-    let mut script = Vec::new(alloc);
-    script.extend_from_slice(b"w 8 ab\nw 1 abc\nx\nf 1\nr\n")?;
-    let long = vec![in alloc; b'z'; 8449]?;
-    script.extend_from_slice(&long)?;
-    let ran = run(alloc, &setting(&SERVE, &flash, &disk, &script))?;
-    let want = b"bad address\nbad data\nbad word\nbad rest\nbad address\nbad long\nbye 0\n";
-    assert_eq!(rt; ran.left.out.as_slice(), want.as_slice());
-    assert_eq!(rt; ran.status, 0);
-    Ok(())
-}
-
-// One record in the log: a link of address 0 to slot 0, which isn't listed, and one of no kind.
-#[test]
-fn a_record_that_does_not_fit_is_told_by_its_place(rt: HostRuntime) -> Result<(), Stop> {
-    let alloc = rt.alloc();
-    let disk = worked_disk();
-    for kind in [2, 9] {
-        let mut flash = formatted(alloc)?;
-        if flash.len() > 102 {
-            flash[97] = 1;
-            flash[98] = 1;
-            flash[102] = kind;
-        }
-        let ran = run(alloc, &setting(&SERVE, &flash, &disk, b"r 0\n"))?;
-        assert_eq!(rt;
-            ran.left.out.as_slice(),
-            b"refused group 0 102\n".as_slice()
-        );
-        assert_eq!(rt; ran.status, 3);
-    }
-    Ok(())
 }
 
 // The first sync is the opening's, the second the body's. What the gate shows counts for the next opening.

@@ -10,7 +10,7 @@ use std::test::Fail as Stop;
 // are those of a program that computes them from the definitions alone.
 #[test]
 fn a_changed_flash_is_refused(rt: HostRuntime) -> Result<(), Stop> {
-    let rows: [(&[(usize, u8)], &[u8]); 28] = [
+    let rows: [(&[(usize, u8)], &[u8]); 31] = [
         // the superblock
         (&[(0, 0)], b"refused super gate 0\n"),
         (&[(0, 2)], b"refused super gate 2\n"),
@@ -18,6 +18,7 @@ fn a_changed_flash_is_refused(rt: HostRuntime) -> Result<(), Stop> {
         (&[(4, 0)], b"refused super magic\n"),
         (&[(8, 2)], b"refused super version 2\n"),
         (&[(12, 15)], b"refused super geometry block 15\n"),
+        (&[(12, 17)], b"refused super geometry block 17\n"),
         (&[(50, 2)], b"refused super padding 50\n"),
         (&[(63, 1)], b"refused super padding 63\n"),
         // the gates and headers of the regions
@@ -27,7 +28,9 @@ fn a_changed_flash_is_refused(rt: HostRuntime) -> Result<(), Stop> {
         (&[(69, 9)], b"refused snapshot 0 69\n"),
         (&[(69, 1)], b"refused version 1\n"),
         (&[(89, 4)], b"refused snapshot 0 89\n"),
+        (&[(89, 9)], b"refused snapshot 0 89\n"),
         (&[(93, 3)], b"refused snapshot 0 93\n"),
+        (&[(93, 9)], b"refused snapshot 0 93\n"),
         (&[(80, 64)], b"refused worn 4611686018427387905\n"),
         (&[(88, 64)], b"refused worn 4611686018427387904\n"),
         (&[(693, 1)], b"refused snapshot 1 694\n"),
@@ -84,6 +87,19 @@ fn a_changed_flash_is_refused(rt: HostRuntime) -> Result<(), Stop> {
         refuses(&rt, alloc, &changed(alloc, changes)?, &worked_disk(), line)?;
     }
     Ok(())
+}
+
+#[test]
+fn a_flash_of_zeros_is_refused(rt: HostRuntime) -> Result<(), Stop> {
+    let alloc = rt.alloc();
+    let zeros = vec![in alloc; 0; FLASH]?;
+    refuses(
+        &rt,
+        alloc,
+        &zeros,
+        &worked_disk(),
+        b"refused super gate 0\n",
+    )
 }
 
 fn changed(alloc: Global, changes: &[(usize, u8)]) -> Result<Vec<u8>, Stop> {

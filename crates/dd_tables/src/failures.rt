@@ -2,7 +2,7 @@
 
 use crate::cases::WRITE_BACK;
 use crate::told::{acknowledged, answered, bytes_of_lines, count_behind};
-use crate::world::{MOST, PICKS, call_once, failing_rig, name_of, serve};
+use crate::world::{MOST, PICKS, call_once, failing_rig, name_of, run, serve};
 use dd_rig::Dev;
 use dd_rigmem::{Call, Fail, RigMem};
 use std::alloc::Global;
@@ -22,19 +22,34 @@ const WITHOUT: [&[u8]; 8] = [
     b"new\ndup\ndup\ndup out 4\nticked\ncleaned\nmiss 01 out 5\nbye 5\n",
 ];
 
+// Twenty generated commands, 17 of which are references, and what a program says of them that knows the definitions
+// alone.
+const GEN: [&str; 3] = ["gen", "4294967302", "20"];
+
+const SUMMED: &[u8] = b"sum hit 0 join 8 miss 3 dup 5 new 1 out 9 drop 2\nbye 17\n";
+
+const CALLS: [Call; 7] = [
+    Call::Read(Dev::Flash),
+    Call::Read(Dev::Disk),
+    Call::Write(Dev::Flash),
+    Call::Write(Dev::Disk),
+    Call::Sync(Dev::Flash),
+    Call::Sync(Dev::Disk),
+    Call::Emit,
+];
+
 #[test]
 fn each_call_fails_once(rt: HostRuntime) -> Result<(), Stop> {
-    let calls = [
-        Call::Read(Dev::Flash),
-        Call::Read(Dev::Disk),
-        Call::Write(Dev::Flash),
-        Call::Write(Dev::Disk),
-        Call::Sync(Dev::Flash),
-        Call::Sync(Dev::Disk),
-        Call::Emit,
-    ];
-    for call in calls {
+    for call in CALLS {
         assert!(rt; each_fails_once(&rt, rt.alloc(), call)?, "{call:?}");
+    }
+    Ok(())
+}
+
+#[test]
+fn each_call_of_a_gen_fails_once(rt: HostRuntime) -> Result<(), Stop> {
+    for call in CALLS {
+        assert!(rt; each_fails_in_gen(&rt, rt.alloc(), call)?, "{call:?}");
     }
     Ok(())
 }
@@ -142,6 +157,45 @@ fn is_cut(said: &[u8], line: usize) -> bool {
     let begin = bytes_of_lines(WRITE_BACK.quiet, line.saturating_sub(1));
     let end = bytes_of_lines(WRITE_BACK.quiet, line);
     WRITE_BACK.quiet.get(..begin.saturating_add(end) / 2) == Some(said)
+}
+
+// Counts upwards, and answers whether that came to a large run that meets no failure.
+fn each_fails_in_gen(rt: &impl Abort, alloc: Global, call: Call) -> Result<bool, Stop> {
+    for number in 1..=MOST {
+        if !fails_in_gen(rt, alloc, Fail { call, number })? {
+            return Ok(true);
+        }
+    }
+    Ok(false)
+}
+
+// A large run where one call fails, and whether it met that: it says why it stopped and nothing else, or a part of
+// its two lines where an emit failed.
+fn fails_in_gen(rt: &impl Abort, alloc: Global, fail: Fail) -> Result<bool, Stop> {
+    let mut rig = failing_rig(alloc, &[fail])?;
+    let ran = run(alloc, &mut rig, &GEN, b"", 7)?;
+    if ran.status == 0 {
+        assert!(rt; call_once(&mut rig, fail.call).is_err(), "{fail:?}");
+        assert_eq!(rt; ran.said.as_slice(), SUMMED, "{fail:?}");
+        return Ok(false);
+    }
+    let (status, is_told) = match fail.call {
+        Call::Read(dev) | Call::Write(dev) | Call::Sync(dev) => {
+            (7, ran.said.strip_prefix(b"stopped ") == Some(name_of(dev)))
+        }
+        Call::Emit => (
+            6,
+            ran.said.len() < SUMMED.len() && SUMMED.starts_with(&ran.said),
+        ),
+    };
+    assert_eq!(rt; ran.status, status, "{fail:?}");
+    assert!(rt; is_told, "{fail:?}");
+    let count = count_reopened(rt, alloc, &mut rig, fail)?;
+    assert!(rt;
+        count.is_some_and(|n| acknowledged(&ran.said) <= n && n <= 17),
+        "{fail:?}"
+    );
+    Ok(true)
 }
 
 // The count of the next run on the same rig, without a crash. It opens, and syncs both devices: all that is shown

@@ -9,10 +9,20 @@ use std::process::Abort;
 use std::test::Fail as Stop;
 
 #[test]
-fn each_call_stops_and_each_call_of_its_recovery(rt: HostRuntime) -> Result<(), Stop> {
-    for case in [EVICTION, SNAPSHOT, DROP] {
-        assert!(rt; each_call_stops(&rt, rt.alloc(), &case)?);
-    }
+fn each_call_of_an_eviction_stops_and_each_of_its_recovery(rt: HostRuntime) -> Result<(), Stop> {
+    assert!(rt; each_call_stops(&rt, rt.alloc(), &EVICTION)?);
+    Ok(())
+}
+
+#[test]
+fn each_call_of_a_snapshot_stops_and_each_of_its_recovery(rt: HostRuntime) -> Result<(), Stop> {
+    assert!(rt; each_call_stops(&rt, rt.alloc(), &SNAPSHOT)?);
+    Ok(())
+}
+
+#[test]
+fn each_call_of_a_drop_stops_and_each_of_its_recovery(rt: HostRuntime) -> Result<(), Stop> {
+    assert!(rt; each_call_stops(&rt, rt.alloc(), &DROP)?);
     Ok(())
 }
 
@@ -63,30 +73,53 @@ fn recovers(
         "{at:?}"
     );
     assert!(rt; count.is_some_and(|n| n <= answered(&left.out)), "{at:?}");
-    let read = serve_left(alloc, left, case.reads)?;
-    assert!(rt; count.is_some_and(|n| case.finds(n, &read.said)), "{at:?}");
-    assert!(rt; each_recovery_stops(rt, alloc, left, count, at)?, "{at:?}");
+    let Some(count) = count else {
+        return Ok(());
+    };
+    assert!(rt; goes_on(alloc, case, left, count)?, "{at:?}");
+    assert!(rt;
+        each_recovery_stops(rt, alloc, case, left, count, at)?,
+        "{at:?}"
+    );
     Ok(())
 }
 
-// Counts upwards in the run that recovers: what a stop of it leaves has the same count.
+// Counts upwards in the run that recovers, and takes each of the six crashes there: the run behind it has the same
+// count, and goes on from there.
 fn each_recovery_stops(
     rt: &impl Abort,
     alloc: Global,
+    case: &Case,
     left: &Outcome,
-    count: Option<u64>,
+    count: u64,
     at: Crash,
 ) -> Result<bool, Stop> {
     for call in 1..=MOST {
         let mut rig = stopping_rig(rt, alloc, &left.flash, &left.disk, call)?;
         let ran = serve(alloc, &mut rig, b"")?;
-        let again = count_found(alloc, &rig.crash(alloc, at.pick)?)?;
-        assert_eq!(rt; again, count, "{at:?}, again at {call}");
-        if count_behind(&ran.said, b"bye ") == count {
+        let first = rig.crash(alloc, 0)?;
+        assert!(rt;
+            goes_on(alloc, case, &first, count)?,
+            "{at:?}, again at {call}"
+        );
+        for pick in 1..PICKS {
+            let again = rig.crash(alloc, pick)?;
+            let is_first = again.flash == first.flash && again.disk == first.disk;
+            assert!(rt;
+                is_first || goes_on(alloc, case, &again, count)?,
+                "{at:?}, again at {call}, pick {pick}"
+            );
+        }
+        if count_behind(&ran.said, b"bye ") == Some(count) {
             return Ok(true);
         }
     }
     Ok(false)
+}
+
+// Whether a run over these devices finds what stands behind so many references.
+fn goes_on(alloc: Global, case: &Case, left: &Outcome, count: u64) -> Result<bool, Stop> {
+    Ok(case.finds(count, &serve_left(alloc, left, case.reads)?.said))
 }
 
 // The count that a run tells which has no line to answer.
