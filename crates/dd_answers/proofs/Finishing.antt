@@ -10,6 +10,7 @@ use Rattle.dd_model.specs.State.{Sizes, State}
 use Rattle.dd_script.specs.Command.{Command}
 use Rattle.dd_loop.specs.Serving.{ServedAll, ServedUpTo}
 use Rattle.dd_loop.proofs.Faults.{counts_none}
+use Rattle.dd_loop.proofs.More.{more_same}
 use Rattle.dd_answers.specs.Answering.{StandsBy}
 use Rattle.dd_rig.proofs.Falling.{falls_self, frame_self}
 use Rattle.dd_script.specs.declared.reply.Stop.{Stop}
@@ -18,7 +19,7 @@ use Rattle.dd_loop.specs.declared.halt.Halt.TheVariants.{Stopped, Output}
 use Rattle.dd_answers.specs.Serving.{LinesPaid, LoopEnds, served_ending}
 use Rattle.dd_answers.specs.Costs.{HasArrayBehind}
 
-pub ruleset serving_steps = (falls_self, frame_self)
+pub ruleset serving_steps = (falls_self, frame_self, more_same)
 
 pub ok_both : {T E : Type 0} (r : Result T E) (P Q : Type 0) → OnOk r P → OnOk r Q → OnOk r (P × Q)
 ok_both (Ok x) P Q h k = (h, k)

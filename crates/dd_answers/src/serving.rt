@@ -12,6 +12,7 @@ ghost use Rattle.dd_store.specs.Keeping.{Kept};
 ghost use Rattle.dd_store.specs.Meaning.{sizes_of};
 ghost use Rattle.dd_loop.specs.declared.ending.Ending.TheVariants.{Stopped};
 ghost use Rattle.dd_loop.specs.Halting.{Halts};
+ghost use Rattle.dd_loop.specs.Saying.{SaysMore};
 ghost use Rattle.dd_loop.specs.Serving.{ServedAll, ServedUpTo};
 ghost use Rattle.dd_loop.specs.Standing.{StandForPrefix};
 ghost use Rattle.dd_answers.specs.Answering.{MayAnswer, StandsBy};
@@ -46,6 +47,7 @@ pub fn serve_store<F: Fingerprint, L: Lists, R: Rig, S: Source>(
     ensures caused { Caused ⊥ (S.tells → IsBounded (sizes_of store.store.journal.geo) (S.rest source.old) → ⊥) result (R.counts rig.old) (R.counts rig.new) (S.failures source.old) (S.failures source.new) }
     ensures taken { S.tells → IsServed result → IsTakenTo (dialect_of (sizes_of store.store.journal.geo)) (S.rest source.old) (S.rest source.new) × IsBounded (sizes_of store.store.journal.geo) (S.rest source.old) }
     ensures untaken { result ≡ Stopped Memory → (source.new ≡ source.old) × (rig.new ≡ rig.old) }
+    ensures more { R.tells → SaysMore (R.world rig.old) (R.world rig.new) }
     ensures frame { Frame (R.counts rig.old) (R.counts rig.new) (R.device_size rig.old) (R.device_size rig.new) }
 {
     match serve_script(alloc, store, source, rig) {
@@ -90,6 +92,7 @@ fn serve_script<F: Fingerprint, L: Lists, R: Rig, S: Source>(
     ensures halt { IfOk result (λ served. IfErr served (λ halt. Halts (λ device. Unit {0}) (Rose (S.failures source.old) (S.failures source.new))
         (S.tells → IsBounded (sizes_of store.store.journal.geo) (S.rest source.old) → ⊥) halt (R.counts rig.old) (R.counts rig.new))) }
     ensures early { OnErr result ((source.new ≡ source.old) × (rig.new ≡ rig.old)) }
+    ensures more { R.tells → SaysMore (R.world rig.old) (R.world rig.new) }
     ensures frame { Frame (R.counts rig.old) (R.counts rig.new) (R.device_size rig.old) (R.device_size rig.new) }
 {
     knows_dirty(&store);

@@ -11,7 +11,7 @@ ghost use Rattle.dd_store.specs.Keeping.{Kept};
 ghost use Rattle.dd_store.specs.Meaning.{sizes_of};
 ghost use Rattle.dd_loop.specs.declared.ending.Ending.TheVariants.{Stopped};
 ghost use Rattle.dd_loop.specs.Ending.{SaysEnding};
-ghost use Rattle.dd_loop.specs.Saying.{IsIdle};
+ghost use Rattle.dd_loop.specs.Saying.{IsIdle, SaysMore};
 ghost use Rattle.dd_answers.specs.Answering.{MayAnswer};
 ghost use Rattle.dd_answers.specs.Headline.{Begins, sizes_from};
 ghost use Rattle.dd_answers.specs.Opening.{IsUnserved, RefusesDevices};
@@ -109,6 +109,7 @@ fn run_store<F: Fingerprint, L: Lists, R: Rig>(
         → RunEnds (F.printed store.print) (sizes_of store.store.journal.geo) start seed count result (R.world rig.old).said (R.world rig.new) }
     ensures caused { Caused ⊥ result (R.counts rig.old) (R.counts rig.new) }
     ensures memory { result ≡ Stopped Memory → rig.new ≡ rig.old }
+    ensures more { R.tells → SaysMore (R.world rig.old) (R.world rig.new) }
     ensures frame { Frame (R.counts rig.old) (R.counts rig.new) (R.device_size rig.old) (R.device_size rig.new) }
 {
     let size = store.geometry().block as usize;
@@ -135,6 +136,7 @@ fn commit<F: Fingerprint, L: Lists, R: Rig>(
         → CommitEnds (F.printed store.print) c s sums result (R.world rig.old).said (R.world rig.new) }
     ensures caused { Caused ⊥ result (R.counts rig.old) (R.counts rig.new) }
     ensures memory { result ≢ Stopped Memory }
+    ensures more { R.tells → SaysMore (R.world rig.old) (R.world rig.new) }
     ensures frame { Frame (R.counts rig.old) (R.counts rig.new) (R.device_size rig.old) (R.device_size rig.new) }
 {
     match store.flush(rig) {

@@ -9,4 +9,5 @@ pub mod FaultLines
 pub mod Keeping
 pub mod Served
 pub mod Listing
+pub mod More
 pub mod Lastly

@@ -58,10 +58,10 @@ abbrev pub WithinLast : Option (List ℕ) → World → Outcome → Type 0
 WithinLast None old o = ⊥
 WithinLast (Some line) old o = WithinEmit (ended line) old o
 
--- the output ends with that line, or an emit failed and it ends with a part of it
-abbrev pub SaysBehind : List ℕ → Counts → Counts → World → Type 0
-SaysBehind line before after new =
-    (front : List ℕ) × ((new.said ≡ front ++ ended line) ⊎ (Rose before.failed_emits after.failed_emits × (n : ℕ) × (new.said ≡ front ++ take n (ended line))))
+-- that line is the last that was said since, or an emit failed and a part of it is; whatever was said in front of it
+abbrev pub SaysBehind : List ℕ → Counts → Counts → World → World → Type 0
+SaysBehind line before after old new =
+    (front : List ℕ) × ((new.said ≡ old.said ++ front ++ ended line) ⊎ (Rose before.failed_emits after.failed_emits × (n : ℕ) × (new.said ≡ old.said ++ front ++ take n (ended line))))
 
 -- What the output tells of each ending. A run that was refused, or had no memory, says the line of that and nothing else. One that stopped
 -- for another cause says its line last.
@@ -69,8 +69,8 @@ abbrev pub SaysEnding : Ending → Counts → Counts → World → World → Typ
 SaysEnding (Served faulted) before after old new = ⊤
 SaysEnding (Refused why) before after old new = SaysAlone (refusal_text why) before after old new
 SaysEnding (Stopped stop.Memory) before after old new = SaysAlone (stop_text stop.Memory) before after old new
-SaysEnding (Stopped stop.Script) before after old new = SaysBehind (stop_text stop.Script) before after new
-SaysEnding (Stopped stop.Flash) before after old new = SaysBehind (stop_text stop.Flash) before after new
-SaysEnding (Stopped stop.Disk) before after old new = SaysBehind (stop_text stop.Disk) before after new
-SaysEnding (Stopped stop.Length) before after old new = SaysBehind (stop_text stop.Length) before after new
+SaysEnding (Stopped stop.Script) before after old new = SaysBehind (stop_text stop.Script) before after old new
+SaysEnding (Stopped stop.Flash) before after old new = SaysBehind (stop_text stop.Flash) before after old new
+SaysEnding (Stopped stop.Disk) before after old new = SaysBehind (stop_text stop.Disk) before after old new
+SaysEnding (Stopped stop.Length) before after old new = SaysBehind (stop_text stop.Length) before after old new
 SaysEnding Unheard before after old new = ⊤

@@ -13,6 +13,11 @@ abbrev pub SaysAlone : List ℕ → Counts → Counts → World → World → Ty
 SaysAlone line before after old new =
     (new.said ≡ old.said ++ ended line) ⊎ (Rose before.failed_emits after.failed_emits × (n : ℕ) × (new.said ≡ old.said ++ take n (ended line)))
 
+-- what was said before stands, and more may stand behind it
+pub record SaysMore (old new : World) : Type 0 where
+  pub more : List ℕ
+  pub said : new.said ≡ old.said ++ more
+
 -- a piece goes out, in whole or in part, and a crash within that leaves a part of it
 pub record SaysPiece (piece : List ℕ) (before after : Clock) (old new : World) : Type 0 where
   pub part : SaysSome piece old new

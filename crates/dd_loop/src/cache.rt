@@ -12,7 +12,7 @@ ghost use Rattle.dd_script.specs.Text.{ended, lists_text, reply_room};
 ghost use Rattle.dd_loop.specs.Answering.{Pays, WritesAnswer};
 ghost use Rattle.dd_loop.specs.Halting.{HaltsByDevice};
 ghost use Rattle.dd_loop.specs.Standing.{AllStand, AllStandForEither, WithinCall};
-ghost use Rattle.dd_loop.specs.Saying.{IsIdle, SaysPiece};
+ghost use Rattle.dd_loop.specs.Saying.{IsIdle, SaysMore, SaysPiece};
 ghost use Rattle.dd_loop.specs.Terms.{Terms, dialect_in, lists_line};
 ghost use Rattle.dd_loop.specs.declared.halt.Halt.TheVariants.{Output};
 
@@ -105,6 +105,7 @@ pub trait Cache<R: Rig> {
         ensures says { R.tells → (first : World) (c s : State) → kept self.now first (R.world rig.old) c s
             → SaysPiece (ended (lists_line (terms self.now) s)) (R.clock rig.old) (R.clock rig.new) (R.world rig.old) (R.world rig.new) }
         ensures said { R.tells → (first : World) (c s : State) → kept self.now first (R.world rig.old) c s → OnOk result (R.world rig.new ≡ say (ended (lists_line (terms self.now) s)) (R.world rig.old)) }
+        ensures more { R.tells → SaysMore (R.world rig.old) (R.world rig.new) }
         ensures devices { R.tells → ((R.world rig.new).flash ≡ (R.world rig.old).flash) × ((R.world rig.new).disk ≡ (R.world rig.old).disk) }
         ensures idle { IsIdle (R.counts rig.old) (R.counts rig.new) }
         ensures halt { OnErr result (result ≡ Err Output) }

@@ -11,6 +11,7 @@ ghost use Rattle.dd_script.specs.Script.{commands_of, EndsWithin};
 ghost use Rattle.dd_script.specs.Text.{reply_room};
 ghost use Rattle.dd_loop.specs.Answering.{Pays, AnswersLine, WithinLine, CutsLine};
 ghost use Rattle.dd_loop.specs.Halting.{Halts, stop_of};
+ghost use Rattle.dd_loop.specs.Saying.{SaysMore};
 ghost use Rattle.dd_loop.specs.Serving.{ServedAll, ServedUpTo};
 ghost use Rattle.dd_loop.specs.Standing.{IsHeld, StandForPrefix, StandForSome};
 ghost use Rattle.dd_loop.specs.Terms.{dialect_in};
@@ -53,6 +54,7 @@ pub fn serve_lines<R: Rig, C: Cache<R>, S: Source>(
         (S.tells → EndsWithin (fuel reader.old) (dialect_in (C.terms cache.old)) (left reader.old (S.rest source.old)) → ⊥) halt (R.counts rig.old) (R.counts rig.new)) }
     ensures does { C.does (C.terms cache.old) (R.counts rig.old) (R.counts rig.new) }
     ensures leaves { R.tells → C.leaves (R.world rig.old) (R.world rig.new) }
+    ensures more { R.tells → SaysMore (R.world rig.old) (R.world rig.new) }
     ensures same { C.terms cache.new ≡ C.terms cache.old }
     ensures frame { Frame (R.counts rig.old) (R.counts rig.new) (R.device_size rig.old) (R.device_size rig.new) }
 {
@@ -112,6 +114,7 @@ fn answer_line<R: Rig, C: Cache<R>>(
     ensures halt { IfErr result (λ halt. Halts C.stops ⊥ ⊥ halt (R.counts rig.old) (R.counts rig.new)) }
     ensures does { C.does (C.terms cache.old) (R.counts rig.old) (R.counts rig.new) }
     ensures leaves { R.tells → C.leaves (R.world rig.old) (R.world rig.new) }
+    ensures more { R.tells → SaysMore (R.world rig.old) (R.world rig.new) }
     ensures same { C.terms cache.new ≡ C.terms cache.old }
     ensures frame { Frame (R.counts rig.old) (R.counts rig.new) (R.device_size rig.old) (R.device_size rig.new) }
 {
@@ -145,6 +148,7 @@ fn say_lists<R: Rig, C: Cache<R>>(cache: &C, rig: &mut R, text: &mut [u8]) -> Re
     ensures halt { IfErr result (λ halt. Halts C.stops ⊥ ⊥ halt (R.counts rig.old) (R.counts rig.new)) }
     ensures does { C.does (C.terms cache.now) (R.counts rig.old) (R.counts rig.new) }
     ensures leaves { R.tells → C.leaves (R.world rig.old) (R.world rig.new) }
+    ensures more { R.tells → SaysMore (R.world rig.old) (R.world rig.new) }
     ensures frame { Frame (R.counts rig.old) (R.counts rig.new) (R.device_size rig.old) (R.device_size rig.new) }
 {
     cache.list(rig, text)?;
@@ -177,6 +181,7 @@ fn say_answer<R: Rig, C: Cache<R>>(
     ensures halt { IfErr result (λ halt. Halts C.stops ⊥ ⊥ halt (R.counts rig.old) (R.counts rig.new)) }
     ensures does { C.does (C.terms cache.old) (R.counts rig.old) (R.counts rig.new) }
     ensures leaves { R.tells → C.leaves (R.world rig.old) (R.world rig.new) }
+    ensures more { R.tells → SaysMore (R.world rig.old) (R.world rig.new) }
     ensures same { C.terms cache.new ≡ C.terms cache.old }
     ensures frame { Frame (R.counts rig.old) (R.counts rig.new) (R.device_size rig.old) (R.device_size rig.new) }
 {

@@ -11,7 +11,7 @@ ghost use Rattle.dd_serve.specs.Words.{IsPlan};
 ghost use Rattle.dd_rig.specs.Clock.{AddsNone, Elapses};
 ghost use Rattle.dd_serve.specs.Calls.{OnlyBlocks, looked};
 ghost use Rattle.dd_serve.specs.Scratch.{Scratched, KeepsDevices};
-ghost use Rattle.dd_loop.specs.Saying.{IsIdle, SaysAlone};
+ghost use Rattle.dd_loop.specs.Saying.{IsIdle, SaysAlone, SaysMore};
 ghost use Rattle.dd_serve.specs.Refusing.{Refuses, small_for, refusal_for};
 ghost use Rattle.dd_serve.specs.Answering.{IsFlash};
 ghost use Rattle.dd_serve.specs.Replays.{IsReplayStatus, ReplayIsCaused, LooksInVain, Replays, ReplaysAll, ReplaysUpTo, IsBounded, IsFirst, replay_dialect};
@@ -139,6 +139,7 @@ fn serve_script<L: Lists, F: Fingerprint, R: Rig, S: Source>(
     ensures early { OnErr result (R.tells → R.world rig.new ≡ R.world rig.old) }
     ensures taken { S.tells → IfOk result (λ served. OnOk served (IsTakenTo (replay_dialect plan (R.device_size rig.old DiskDevice)) (S.rest source.old) (S.rest source.new))) }
     ensures untaken { OnErr result (source.new ≡ source.old) }
+    ensures more { R.tells → SaysMore (R.world rig.old) (R.world rig.new) }
     ensures early_counts { OnErr result (R.counts rig.new ≡ R.counts rig.old) }
     ensures others { R.tells → Scratched (R.world rig.old) (R.world rig.new) }
     ensures time { R.tells → Elapses (R.clock rig.old) (R.clock rig.new) (KeepsDevices (R.world rig.old)) }

@@ -62,7 +62,7 @@ returns-clause-caused g c =
           (g.R.Rig.counts c.finish.new.rig) (g.S.Source.failures c.args.source.now) (g.S.Source.failures c.serve_store-ending.new.source) c.finish.ensures.frame.0 c.serve_store-ending.ensures.caused,
       λ t.
           ending_since c.serve_store-ending.result (g.R.Rig.counts c.args.rig.now) (g.R.Rig.counts c.serve_store-ending.new.rig) (g.R.Rig.counts c.finish.new.rig) (g.R.Rig.world c.args.rig.now) (g.R.Rig.world c.serve_store-ending.new.rig)
-          (g.R.Rig.world c.finish.new.rig) c.serve_store-ending.ensures.frame.0
+          (g.R.Rig.world c.finish.new.rig) c.serve_store-ending.ensures.frame.0 (c.serve_store-ending.ensures.more t)
           (first_by c.serve_store-ending.result ((g.R.Rig.world c.serve_store-ending.new.rig).said ≡ (g.R.Rig.world c.args.rig.now).said)
           (λ why is. absurd (never_refused long why c.serve_store-ending.result (g.R.Rig.counts c.args.rig.now) (g.R.Rig.counts c.serve_store-ending.new.rig) (g.S.Source.failures c.args.source.now)
           (g.S.Source.failures c.serve_store-ending.new.source) is c.serve_store-ending.ensures.caused))

@@ -17,6 +17,7 @@ use Rattle.dd_answers.specs.Headline.{Headline}
 use Rattle.dd_answers.specs.Opening.{ending_of}
 use Rattle.dd_answers.specs.Serving.{IsBounded, Serves}
 use Rattle.dd_loop.proofs.Lastly.{ending_since, ending_later}
+use Rattle.dd_loop.proofs.More.{more_same}
 use Rattle.dd_answers.proofs.Ended.{opened_calls, Stops, stops, quiet_fault, refuses_first, unopened_within, unopened_behind, serves_unopened, by_three, caused_later, caused_since, fault_asked, opening_cause, quiet_behind, refuses_so, serves_since}
 use Rattle.dd_answers.proofs.opening.serve.Goals as goal
 
@@ -141,7 +142,7 @@ returns-in-Err-clause-caused g c =
           (g.S.Source.failures c.args.source.now) (g.S.Source.failures c.args.source.now) c.finish.ensures.frame.0
           (opening_cause opening long refl c.in-Err.fault (g.R.Rig.counts c.args.rig.now) (g.R.Rig.counts c.open_store.new.rig) (g.S.Source.failures c.args.source.now) (g.S.Source.failures c.args.source.now) c.in-Err.ensures.cause),
       λ t.
-          ending_since (ending_of c.in-Err.fault) (g.R.Rig.counts c.args.rig.now) (g.R.Rig.counts c.open_store.new.rig) (g.R.Rig.counts c.finish.new.rig) old middle new c.open_store.ensures.frame.0 (λ first. c.open_store.ensures.said t)
+          ending_since (ending_of c.in-Err.fault) (g.R.Rig.counts c.args.rig.now) (g.R.Rig.counts c.open_store.new.rig) (g.R.Rig.counts c.finish.new.rig) old middle new c.open_store.ensures.frame.0 (more_same old middle (c.open_store.ensures.said t)) (λ first. c.open_store.ensures.said t)
           (subst (λ (e : Ending). SaysLast (ending_line e) (g.R.Rig.counts c.open_store.new.rig) (g.R.Rig.counts c.finish.new.rig) middle new) c.ending_of-ending.ensures (c.finish.ensures.said t)),
     )
 

@@ -43,7 +43,7 @@ returns-clause-caused g c = (
       (falls_self (g.R.Rig.counts c.args.rig.now)) c.finish.ensures.frame.0 c.run_store-ending.ensures.caused,
   λ t.
       ending_since c.run_store-ending.result (g.R.Rig.counts c.args.rig.now) (g.R.Rig.counts c.run_store-ending.new.rig) (g.R.Rig.counts c.finish.new.rig) (g.R.Rig.world c.args.rig.now) (g.R.Rig.world c.run_store-ending.new.rig)
-      (g.R.Rig.world c.finish.new.rig) c.run_store-ending.ensures.frame.0
+      (g.R.Rig.world c.finish.new.rig) c.run_store-ending.ensures.frame.0 (c.run_store-ending.ensures.more t)
       (first_by c.run_store-ending.result ((g.R.Rig.world c.run_store-ending.new.rig).said ≡ (g.R.Rig.world c.args.rig.now).said)
       (λ why is. absurd (never_refused why c.run_store-ending.result (g.R.Rig.counts c.args.rig.now) (g.R.Rig.counts c.run_store-ending.new.rig) is c.run_store-ending.ensures.caused))
       (λ is. ap (λ rig. (g.R.Rig.world rig).said) (c.run_store-ending.ensures.memory is))) (c.finish.ensures.said t),

@@ -12,6 +12,7 @@ use Rattle.dd_loop.specs.Ending.{ending_line, status_of, SaysLast, WithinLast}
 use Rattle.dd_answers.specs.Opening.{ending_of, IsUnserved}
 use Rattle.dd_answers.proofs.Ended.{Stops, stops, quiet_fault, refuses_first, unopened_within, unopened_behind, by_three, fault_asked, fault_status, quiet_behind, refuses_so}
 use Rattle.dd_loop.proofs.Lastly.{ending_since, ending_later}
+use Rattle.dd_loop.proofs.More.{more_same}
 use Rattle.dd_gen.specs.Large.{LeavesGenerated, TellsSums}
 use Rattle.dd_gen.proofs.Ended.{caused_amid, opening_cause, quiet_cause, tells_since, unopened_tells}
 use Rattle.dd_gen.proofs.opening.generate.Goals as goal
@@ -68,7 +69,7 @@ returns-in-Err-clause-caused g c = (
       (falls_self (g.R.Rig.counts c.args.rig.now)) c.finish.ensures.frame.0 (opening_cause c.in-Err.fault (g.R.Rig.counts c.args.rig.now) (g.R.Rig.counts c.open_store.new.rig) c.in-Err.ensures.cause),
   λ t.
       ending_since (ending_of c.in-Err.fault) (g.R.Rig.counts c.args.rig.now) (g.R.Rig.counts c.open_store.new.rig) (g.R.Rig.counts c.finish.new.rig) (g.R.Rig.world c.args.rig.now) (g.R.Rig.world c.open_store.new.rig)
-      (g.R.Rig.world c.finish.new.rig) c.open_store.ensures.frame.0 (λ first. c.open_store.ensures.said t)
+      (g.R.Rig.world c.finish.new.rig) c.open_store.ensures.frame.0 (more_same _ _ (c.open_store.ensures.said t)) (λ first. c.open_store.ensures.said t)
       (subst (λ (e : Ending). SaysLast (ending_line e) (g.R.Rig.counts c.open_store.new.rig) (g.R.Rig.counts c.finish.new.rig) (g.R.Rig.world c.open_store.new.rig) (g.R.Rig.world c.finish.new.rig)) c.ending_of-ending.ensures (c.finish.ensures.said t)),
 )
 

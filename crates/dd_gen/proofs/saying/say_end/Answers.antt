@@ -1,6 +1,7 @@
 use Rattle.std.proofs.Common.{refl}
 use Rattle.dd_rig.specs.World.{World}
 use Rattle.dd_rig.proofs.Moments.{goes_on, widens}
+use Rattle.dd_loop.proofs.More.{more_both, more_some}
 use Rattle.dd_gen.proofs.Said.{first_within, second_within, first_part, second_part, both_said}
 use Rattle.dd_gen.proofs.saying.say_end.Goals as goal
 
@@ -29,3 +30,17 @@ returns-in-Ok-say_reply-clause-crash g c = λ t.
 pub returns-in-Ok-say_reply-clause-said : goal.returns-in-Ok-say_reply-clause-said
 returns-in-Ok-say_reply-clause-said g c = λ t.
     (refl, both_said c.args.sums c.args.count (g.R.Rig.world c.args.rig.now) (g.R.Rig.world c.say_reply.new.rig) (g.R.Rig.world c.say_reply-in-Ok.new.rig) (c.in-Ok.ensures.said t) (c.in-Ok-say_reply.ensures.said t))
+
+pub returns-in-Err-say_reply-clause-more : goal.returns-in-Err-say_reply-clause-more
+returns-in-Err-say_reply-clause-more g c = λ t.
+    let old : World = g.R.Rig.world c.args.rig.now in
+    let middle : World = g.R.Rig.world c.say_reply.new.rig in
+    let new : World = g.R.Rig.world c.say_reply-in-Ok.new.rig in
+    more_both old middle new (more_some _ old middle (c.say_reply.ensures.part t)) (more_some _ middle new (c.say_reply-in-Ok.ensures.part t))
+
+pub returns-in-Ok-say_reply-clause-more : goal.returns-in-Ok-say_reply-clause-more
+returns-in-Ok-say_reply-clause-more g c = λ t.
+    let old : World = g.R.Rig.world c.args.rig.now in
+    let middle : World = g.R.Rig.world c.say_reply.new.rig in
+    let new : World = g.R.Rig.world c.say_reply-in-Ok.new.rig in
+    more_both old middle new (more_some _ old middle (c.say_reply.ensures.part t)) (more_some _ middle new (c.say_reply-in-Ok.ensures.part t))

@@ -22,6 +22,7 @@ use Rattle.dd_script.specs.Line.{IsIn}
 use Rattle.dd_script.specs.declared.dialect.Dialect.{Dialect}
 use Rattle.dd_loop.proofs.Faults.{counts_none}
 use Rattle.dd_loop.proofs.Keeping.{SomeKept, some_after, some_moments}
+use Rattle.dd_loop.proofs.More.{more_both, more_same}
 use Rattle.dd_loop.proofs.Paying.{pays_more, pays_begun, pays_cut}
 use Rattle.dd_loop.proofs.Reading.{same_front, bounds_for, passes_for, commands_some}
 use Rattle.dd_loop.proofs.Standing.{Going, going_first, going_line, prefix_within, halts_between, halts_within, served_all, after_front, front_quit, front_other}
@@ -45,6 +46,7 @@ lines-init g c = record {
   size = refl;
   does = g.met.C.Cache.does_none (g.C.Cache.terms c.args.cache.now) (g.R.Rig.counts c.args.rig.now);
   leaves = λ t. g.met.C.Cache.leaves_all (g.R.Rig.world c.args.rig.now);
+  more = λ t. more_same (g.R.Rig.world c.args.rig.now) (g.R.Rig.world c.args.rig.now) refl;
   later = omega arith;
   bounds = λ u h. h;
   bounds_back = λ u h. h;
@@ -275,6 +277,7 @@ lines-preserved g c =
       size = c.answer_line.ensures.frame.1 ∙ c.lines.invariant.size;
       does = g.met.C.Cache.does_both (g.C.Cache.terms c.args.cache.now) _ _ _ c.lines.invariant.does (subst (λ (x : Terms). g.C.Cache.does x (g.R.Rig.counts c.lines.rig) (g.R.Rig.counts c.answer_line.new.rig)) c.lines.invariant.same c.answer_line.ensures.does);
       leaves = λ t. g.met.C.Cache.leaves_both _ _ _ (c.lines.invariant.leaves t) (c.answer_line.ensures.leaves t);
+      more = λ t. more_both _ _ _ (c.lines.invariant.more t) (c.answer_line.ensures.more t);
       later = omega (arith, c.lines.invariant.later, c.next.ensures.later);
       bounds = λ u h. c.lines.invariant.bounds u ((bounds u).1 h);
       bounds_back = λ u h. (bounds u).0 (c.lines.invariant.bounds_back u h);
@@ -328,3 +331,9 @@ returns-then-is_quit-clause-moments g c = λ t first one s kept.
 pub answer_line-requires-clause-within : goal.answer_line-requires-clause-within
 answer_line-requires-clause-within g c =
     subst (λ (x : Terms). IsIn (dialect_in x) c.in-Ok.line) (sym c.lines.invariant.same) (subst (λ (d : Dialect). IsIn d c.in-Ok.line) c.dialect-dialect.ensures.dialect c.in-Ok.ensures.within)
+
+pub returns-in_err-failed-clause-more : goal.returns-in_err-failed-clause-more
+returns-in_err-failed-clause-more g c = λ t. more_both _ _ _ (c.lines.invariant.more t) (c.answer_line.ensures.more t)
+
+pub returns-then-is_quit-clause-more : goal.returns-then-is_quit-clause-more
+returns-then-is_quit-clause-more g c = λ t. more_both _ _ _ (c.lines.invariant.more t) (c.answer_line.ensures.more t)

@@ -6,6 +6,7 @@ use Rattle.dd_model.specs.State.{State}
 use Rattle.dd_script.specs.Reading.{left, fuel}
 use Rattle.dd_script.specs.Script.{commands_of, EndsWithin}
 use Rattle.dd_loop.specs.Answering.{Pays}
+use Rattle.dd_loop.specs.Saying.{SaysMore}
 use Rattle.dd_loop.specs.Standing.{StandForPrefix, StandForSome}
 use Rattle.dd_loop.proofs.Keeping.{SomeKept}
 use Rattle.dd_loop.specs.Terms.{dialect_in}
@@ -36,6 +37,7 @@ invariant-lines g l =
       size : g.R.Rig.device_size l.rig ≡ g.R.Rig.device_size l.fn.rig;
       does : g.C.Cache.does terms (g.R.Rig.counts l.fn.rig) (g.R.Rig.counts l.rig);
       leaves : g.R.Rig.tells → g.C.Cache.leaves (world l.fn.rig) (world l.rig);
+      more : g.R.Rig.tells → SaysMore (world l.fn.rig) (world l.rig);
       later : g.S.Source.failures l.fn.source ≤ g.S.Source.failures l.source;
       bounds : g.S.Source.tells
           → (EndsWithin (fuel l.reader) (dialect_in terms) (left l.reader (g.S.Source.rest l.source)) → EndsWithin (fuel l.fn.reader) (dialect_in terms) (left l.fn.reader (g.S.Source.rest l.fn.source)));

@@ -12,6 +12,7 @@ use Rattle.dd_script.specs.Text.{ended, reply_text}
 use Rattle.dd_serve.specs.declared.words.Asked.TheVariants.{Format}
 use Rattle.dd_loop.specs.Ending.{SaysEnding, SaysLast, ending_line, status_of}
 use Rattle.dd_loop.proofs.Lastly.{alone_since, ending_since}
+use Rattle.dd_loop.proofs.More.{more_same}
 use Rattle.dd_serve.proofs.Endings.{fault_caused, fault_two, formatted_caused}
 use Rattle.dd_serve.specs.Formats.{Formats, ending_of}
 use Rattle.dd_serve.specs.Refusing.{Refuses, small_for, in_use, flash_needs, disk_needs}
@@ -70,7 +71,7 @@ returns-in-Err-clause-caused g c =
       fault_two why c.finish.result is,
       caused,
       λ t.
-          ending_since (ending_of why) before between after old middle new c.in-Err.ensures.later (λ first. c.in-Err.ensures.said t)
+          ending_since (ending_of why) before between after old middle new c.in-Err.ensures.later (more_same old middle (c.in-Err.ensures.said t)) (λ first. c.in-Err.ensures.said t)
           (subst (λ (o : Option (List ℕ)). SaysLast o between after middle new) ending (c.finish.ensures.said t)),
     )
 

@@ -17,6 +17,7 @@ use Rattle.dd_serve.specs.Replays.{LooksInVain, Replays, replay_dialect, plan_si
 use Rattle.dd_loop.specs.declared.ending.Ending.TheVariants.{Refused, Stopped}
 use Rattle.dd_loop.specs.Saying.{SaysAlone}
 use Rattle.dd_loop.proofs.Lastly.{alone_since, behind_since, ending_later}
+use Rattle.dd_loop.proofs.More.{more_same}
 use Rattle.dd_loop.proofs.Reading.{commands_some}
 use Rattle.dd_serve.proofs.Endings.{replay_behind}
 use Rattle.dd_serve.proofs.Finishing.{stops_alone, stops_early}
@@ -60,7 +61,7 @@ returns-in-Err-clause-caused g c =
         (λ t. alone_since (stop_text stop.Flash) before between after old middle new falls (ap (λ (w : World). w.said) (c.in-Err.ensures.world t)) (c.finish.ensures.said t)),
         one_look c.is_in_use.result before between after c.is_in_use.ensures.counts c.finish.ensures.idle,
       ),
-      λ t. behind_since (stop_text stop.Flash) before between after middle new falls (c.finish.ensures.said t),
+      λ t. behind_since (stop_text stop.Flash) before between after old middle new falls (more_same old middle (ap (λ (w : World). w.said) (c.in-Err.ensures.world t))) (c.finish.ensures.said t),
     )
 
 pub returns-in-Ok-true-clause-caused : goal.returns-in-Ok-true-clause-caused

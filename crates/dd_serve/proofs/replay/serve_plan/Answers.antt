@@ -72,7 +72,7 @@ returns-in-Stopped-clause-caused g c =
       (λ two. omega (arith, is, two, stop_large why)),
       halt_caused why P (λ line. g.R.Rig.tells → SaysAlone line before end (g.R.Rig.world c.args.rig.now) (g.R.Rig.world c.finish-in-Stopped.new.rig)) before between end m n c.finish-in-Stopped.ensures.frame.0 halts,
       λ t.
-          ending_since (Stopped why) before between end (g.R.Rig.world c.args.rig.now) (g.R.Rig.world c.serve_script.new.rig) (g.R.Rig.world c.finish-in-Stopped.new.rig) c.serve_script.ensures.later
+          ending_since (Stopped why) before between end (g.R.Rig.world c.args.rig.now) (g.R.Rig.world c.serve_script.new.rig) (g.R.Rig.world c.finish-in-Stopped.new.rig) c.serve_script.ensures.later (c.serve_script.ensures.more t)
           (λ first. absurd (not_first why F P before between halts first)) (c.finish-in-Stopped.ensures.said t),
     )
 

@@ -6,6 +6,7 @@ use Rattle.dd_record.specs.Table.{Table}
 use Rattle.dd_script.specs.Text.{ended}
 use Rattle.dd_store.specs.Meaning.{sizes_of}
 use Rattle.dd_loop.specs.Saying.{SaysPiece}
+use Rattle.dd_loop.proofs.More.{more_some}
 use Rattle.dd_answers.specs.Listed.{rows_text}
 use Rattle.dd_answers.proofs.Listed.{on_ok, rows_say}
 use Rattle.dd_answers.proofs.cache.StoreCacheCache.list.Goals as goal
@@ -31,3 +32,6 @@ returns-clause-said g c = λ t first one s kept.
     let b = g.met.L.Lists.same_b lists ∙ ap (λ (t : Table). t.b) c.lists.ensures.table in
     let is = ap (λ rows. rows_text rows (g.L.Rows.b_rows lists)) a ∙ ap (λ rows. rows_text store.table.a rows) b ∙ rows_say print (sizes_of store.journal.geo) (slot_block store.journal.geo world.flash.shown) store.table store.count s kept.holds.means.lists in
     on_ok c.say_rows.result _ _ (λ now. now ∙ ap (λ (l : List ℕ). say (ended l) world) is) (c.say_rows.ensures.said t)
+
+pub returns-clause-more : goal.returns-clause-more
+returns-clause-more g c = λ t. more_some _ (g.R.Rig.world c.args.rig.now) (g.R.Rig.world c.say_rows.new.rig) (c.say_rows.ensures.says t).part

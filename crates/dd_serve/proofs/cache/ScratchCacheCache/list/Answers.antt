@@ -7,6 +7,7 @@ use Rattle.dd_script.specs.Command.{lists}
 use Rattle.dd_script.specs.Output.{reply_line}
 use Rattle.dd_script.specs.Text.{ended}
 use Rattle.dd_loop.specs.Saying.{SaysPiece}
+use Rattle.dd_loop.proofs.More.{more_some}
 use Rattle.dd_answers.specs.Listed.{rows_text}
 use Rattle.dd_answers.proofs.Listed.{on_ok, rows_say}
 use Rattle.dd_serve.specs.Scratch.{ScratchView, held_in, scratch_sizes, scratch_state}
@@ -35,3 +36,6 @@ returns-clause-said g c = λ t first one s kept.
     let is = ap (λ rows. rows_text rows (g.L.Rows.b_rows ls)) a ∙ ap (λ rows. rows_text scratch.lists.table.a rows) b
     ∙ rows_say print (scratch_sizes scratch) (held_in scratch.slots world) scratch.lists.table scratch.count (scratch_state scratch world) kept.sound.0 ∙ ap (λ (x : State). reply_line print (scratch_sizes scratch) x lists) (sym kept.is) in
     on_ok c.say_rows.result _ _ (λ now. now ∙ ap (λ (l : List ℕ). say (ended l) world) is) (c.say_rows.ensures.said t)
+
+pub returns-clause-more : goal.returns-clause-more
+returns-clause-more g c = λ t. more_some _ (g.R.Rig.world c.args.rig.now) (g.R.Rig.world c.say_rows.new.rig) (c.say_rows.ensures.says t).part
