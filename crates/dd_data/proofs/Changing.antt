@@ -10,7 +10,7 @@ use Rattle.dd_record.specs.Table.{b_row}
 use Rattle.dd_lists.specs.Lists.{is_in, is_listed, list_at, without, fronted, put_front, taken_out, moved_front}
 use Rattle.dd_lists.specs.Nodes.{Nodes, value_at, is_live, node_count, IsUnlisted}
 use Rattle.dd_lists.proofs.Members.{in_cons, in_here, in_later, in_without_other, gone, distinct_without, distinct_front, at_taken, at_moved, at_put, none_from, unlisted_from}
-use Rattle.dd_lists.proofs.Keys.{got_in_list, within_is}
+use Rattle.dd_lists.proofs.Found.{got_in_list, within_is}
 use Rattle.dd_index.specs.Index.{Index, nodes_of, Inserts, Removes, Fronts}
 use Rattle.dd_index.proofs.Under.{filter_in, filter_same, filter_without, filter_fronted}
 use Rattle.dd_data.specs.Blocks.{Data, in_front, fronted_row}

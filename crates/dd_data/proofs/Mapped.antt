@@ -7,7 +7,7 @@ use Rattle.std.proofs.lemmas.Option.{slice_get-get_or}
 use Rattle.dd_record.specs.Listed.{row_behind}
 use Rattle.dd_lists.specs.Lists.{is_in, without, behind}
 use Rattle.dd_lists.proofs.Members.{in_cons, in_here, in_later, without_none, none_from}
-use Rattle.dd_lists.proofs.Keys.{got_in_list}
+use Rattle.dd_lists.proofs.Found.{got_in_list}
 
 -- no number is meant
 pub none_since : (o : Option ℕ) → ((n : ℕ) → o ≡ Some n → ⊥) → o ≡ None

@@ -3,7 +3,7 @@ use Rattle.std.proofs.Common.{◌≡◌, ℕ, suc, ◌<◌, ◌==◌, Bool, true
 use Rattle.std.specs.Prelude.{filter}
 use Rattle.std.specs.List.{IsDistinct}
 use Rattle.dd_lists.specs.Lists.{is_in, behind}
-use Rattle.dd_lists.proofs.Keys.{behind_in_list}
+use Rattle.dd_lists.proofs.Found.{behind_in_list}
 use Rattle.dd_index.specs.Chains.{from_on}
 use Rattle.dd_index.proofs.Under.{behind_on, on_in, on_some}
 

@@ -18,7 +18,7 @@ use Rattle.dd_record.specs.Listed.{row_behind}
 use Rattle.dd_lists.specs.Lists.{is_in, behind}
 use Rattle.dd_lists.specs.Nodes.{Nodes, is_live, node_count}
 use Rattle.dd_lists.proofs.Members.{distinct_none}
-use Rattle.dd_lists.proofs.Keys.{within_is}
+use Rattle.dd_lists.proofs.Found.{within_is}
 use Rattle.dd_index.specs.Index.{Index, nodes_of}
 use Rattle.dd_index.specs.Chains.{from_on}
 use Rattle.dd_index.proofs.Under.{filter_in, in_filter, on_head, behind_filter}

@@ -11,7 +11,7 @@ use Rattle.dd_record.specs.Table.{is_link}
 use Rattle.dd_lists.specs.Lists.{is_in, list_at, without, taken_out}
 use Rattle.dd_lists.specs.Nodes.{Nodes, value_at, is_live, IsUnlisted}
 use Rattle.dd_lists.proofs.Members.{in_without_other, gone, without_none, distinct_without, at_taken}
-use Rattle.dd_lists.proofs.Keys.{got_in_list}
+use Rattle.dd_lists.proofs.Found.{got_in_list}
 use Rattle.dd_lists.proofs.Views.{taken_free}
 use Rattle.dd_index.specs.Index.{Index, nodes_of, IsStored, Removes}
 use Rattle.dd_meta.specs.Entries.{Entry, Meta, blank, rows_of}

@@ -7,7 +7,7 @@ use Rattle.std.proofs.lemmas.List.{reverse-append}
 use Rattle.std.proofs.lemmas.List.Elements.{filter-append}
 use Rattle.dd_lists.specs.Lists.{is_in, is_listed, without, taken_out}
 use Rattle.dd_lists.proofs.Members.{in_cons, in_here, in_later, without_none}
-use Rattle.dd_lists.proofs.Keys.{got_in_list}
+use Rattle.dd_lists.proofs.Found.{got_in_list}
 
 pub rev_cons : (x : ℕ) (xs : List ℕ) → reverse (x ∷ xs) ≡ reverse xs ++ x ∷ []
 rev_cons x xs = reverse-append (x ∷ []) xs

@@ -7,7 +7,7 @@ use Rattle.dd_record.specs.declared.row.ARow.{ARow}
 use Rattle.dd_record.specs.Table.{is_slot, a_row}
 use Rattle.dd_lists.specs.Lists.{is_in, list_at}
 use Rattle.dd_lists.specs.Nodes.{Nodes}
-use Rattle.dd_lists.proofs.Keys.{first_in_list}
+use Rattle.dd_lists.proofs.Found.{first_in_list}
 use Rattle.dd_index.specs.Index.{Index}
 use Rattle.dd_meta.specs.Entries.{Meta, rows_of, owed_to}
 use Rattle.dd_meta.specs.Matching.{row_at, listed, shown, home_of, is_home, Matches}

@@ -12,7 +12,7 @@ use Rattle.dd_record.specs.Listed.{row_behind}
 use Rattle.dd_lists.specs.Lists.{is_in, list_at, behind}
 use Rattle.dd_lists.specs.Nodes.{Nodes, value_at, is_live, node_count}
 use Rattle.dd_lists.proofs.Members.{in_cons, in_here, in_later, distinct_none}
-use Rattle.dd_lists.proofs.Keys.{first_in_list}
+use Rattle.dd_lists.proofs.Found.{first_in_list}
 use Rattle.dd_index.specs.Index.{Index, nodes_of}
 use Rattle.dd_meta.specs.Entries.{Entry, blank, rows_of, node_of, row_of, is_listed_address}
 use Rattle.dd_meta.proofs.Numbers.{map_map}

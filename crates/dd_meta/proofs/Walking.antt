@@ -9,7 +9,7 @@ use Rattle.dd_record.specs.Listed.{row_behind}
 use Rattle.dd_lists.specs.Lists.{is_in, is_listed, list_at, behind, before}
 use Rattle.dd_lists.specs.Nodes.{Nodes}
 use Rattle.dd_lists.proofs.Members.{listed_from}
-use Rattle.dd_lists.proofs.Keys.{first_in_list, behind_in_list}
+use Rattle.dd_lists.proofs.Found.{first_in_list, behind_in_list}
 use Rattle.dd_index.specs.Index.{Index, nodes_of}
 use Rattle.dd_meta.specs.Entries.{Meta, node_of, owed_to, row_of}
 use Rattle.dd_meta.specs.Matching.{address_of, listed, waiting, shown, Matches, passing}

@@ -3,7 +3,7 @@ use Rattle.dd_record.specs.declared.row.ARow.{ARow}
 use Rattle.dd_lists.specs.Lists.{list_at, without}
 use Rattle.dd_lists.specs.Nodes.{Nodes}
 use Rattle.dd_lists.proofs.Members.{at_taken}
-use Rattle.dd_lists.proofs.Keys.{first_in_list}
+use Rattle.dd_lists.proofs.Found.{first_in_list}
 use Rattle.dd_meta.proofs.Numbers.{less_without}
 use Rattle.dd_meta.proofs.Unlinking.{unlink_more, unlink_end}
 use Rattle.dd_meta.proofs.lanes.unlink_referrers.Goals as goal

@@ -1,5 +1,5 @@
 use Rattle.std.proofs.Common.{sym, ◌∙◌}
-use Rattle.dd_lists.proofs.Keys.{first_in_list}
+use Rattle.dd_lists.proofs.Found.{first_in_list}
 use Rattle.dd_meta.proofs.tests.by_age.Goals as goal
 
 pub next_dirty-requires-in-Some : goal.next_dirty-requires-in-Some

@@ -1,5 +1,5 @@
 use Rattle.std.proofs.Common.{sym, ◌∙◌}
-use Rattle.dd_lists.proofs.Keys.{first_in_list}
+use Rattle.dd_lists.proofs.Found.{first_in_list}
 use Rattle.dd_meta.specs.Entries.{owed_to}
 use Rattle.dd_meta.specs.Walks.{but}
 use Rattle.dd_meta.proofs.tests.of_slot.Goals as goal

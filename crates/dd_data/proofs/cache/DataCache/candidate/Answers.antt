@@ -2,7 +2,7 @@ use Rattle.std.proofs.Common.{◌≡◌, true, false, Some, None, ◌∙◌, ap,
 use Rattle.std.specs.Prelude.{unwrap_or, slice_get}
 use Rattle.std.specs.Str.{bytes_eq}
 use Rattle.dd_record.specs.Listed.{b_walk}
-use Rattle.dd_lists.proofs.Keys.{first_in_list, behind_in_list}
+use Rattle.dd_lists.proofs.Found.{first_in_list, behind_in_list}
 use Rattle.dd_index.specs.Index.{nodes_of}
 use Rattle.dd_index.proofs.Under.{on_some}
 use Rattle.dd_data.specs.Blocks.{Data, alike}

@@ -2,7 +2,7 @@ use Rattle.std.proofs.Common.{◌≡◌, ◌+◌, ◌-◌, Some, None, ◌∙◌
 use Rattle.std.proofs.lemmas.List.{length-map}
 use Rattle.dd_record.specs.declared.row.BRow.{BRow}
 use Rattle.dd_lists.specs.Nodes.{Nodes, value_at, with_value, node_count}
-use Rattle.dd_lists.proofs.Keys.{got_in_list}
+use Rattle.dd_lists.proofs.Found.{got_in_list}
 use Rattle.dd_data.specs.Blocks.{Data, last_row}
 use Rattle.dd_data.specs.Matching.{key_of, row_at, listed}
 use Rattle.dd_data.proofs.Mapped.{no_last}

@@ -1,6 +1,6 @@
 use Rattle.std.proofs.Common.{◌∙◌, ◌<◌, ap, sym, subst, None, ℕ}
 use Rattle.dd_lists.specs.Lists.{list_at}
-use Rattle.dd_lists.proofs.Keys.{first_in_list}
+use Rattle.dd_lists.proofs.Found.{first_in_list}
 use Rattle.dd_meta.specs.Entries.{Meta, owed_to}
 use Rattle.dd_meta.specs.Keeping.{IsMeta}
 use Rattle.dd_meta.specs.Walks.{but, next_of}

@@ -1,7 +1,7 @@
 use Rattle.std.proofs.Common.{◌≡◌, ◌∙◌, ◌<◌, ap, sym, subst, Some, true, ℕ, Option, None}
 use Rattle.dd_lists.specs.Lists.{is_in, list_at}
 use Rattle.dd_lists.proofs.Members.{listed_from}
-use Rattle.dd_lists.proofs.Keys.{first_in_list, behind_in_list}
+use Rattle.dd_lists.proofs.Found.{first_in_list, behind_in_list}
 use Rattle.dd_meta.specs.Entries.{Meta, owed_to}
 use Rattle.dd_meta.specs.Walks.{but, next_of, IsWalked}
 use Rattle.dd_meta.proofs.Rows.{first_in}
