@@ -1,5 +1,5 @@
 -- What each call of a store keeps, and what it costs: the words that the contracts of its calls share.
-use Rattle.std.specs.Prelude.{◌≡◌, ◌≢◌, ◌<◌, ◌≤◌, ◌+◌, ◌*◌, ℕ, Bool, List, [], ◌∷◌, length, true, false, Option, None, Result, IfOk, IfErr, IfSome, OnOk, if◌then◌else◌}
+use Rattle.std.specs.Prelude.{◌≡◌, ◌≢◌, ◌<◌, ◌≤◌, ◌*◌, ℕ, Bool, List, [], ◌∷◌, length, true, false, Option, None, Result, IfOk, IfErr, IfSome, OnOk, if◌then◌else◌}
 use Rattle.dd_block.specs.declared.print.Fp.{Fp}
 use Rattle.dd_rig.specs.declared.device.Dev.{Dev}
 use Rattle.dd_rig.specs.declared.tallies.Counts.{Counts}
@@ -13,7 +13,7 @@ use Rattle.dd_model.specs.declared.kind.Kind.TheVariants.{Hit}
 use Rattle.dd_model.specs.Confirming.{candidates}
 use Rattle.dd_model.specs.Listing.{next_of}
 use Rattle.dd_model.specs.State.{is_zero_block}
-use Rattle.dd_journal.specs.Regions.{snapshot_size}
+use Rattle.dd_journal.specs.Calls.{CostsOfCommit}
 use Rattle.dd_store.specs.declared.fault.StoreFault.{StoreFault}
 use Rattle.dd_store.specs.declared.fault.StoreFault.TheVariants.{FlashRead, DiskRead}
 use Rattle.dd_store.specs.Keeping.{StoreView}
@@ -85,8 +85,6 @@ pub record CostsOfWrite (print : List ℕ → Fp) (address : ℕ) (result : Resu
   -- it raises the load of the disk by 2 at most
   pub loads : OnOk result (LoadsAtMost 2 old new before.disk after.disk)
 
--- What a commit costs: a group of records where they have room, else a snapshot of the rows. The disk isn't called.
-pub record CostsOfCommit (old : StoreView) (before after : Counts) : Type 0 where
-  pub group : 48 * length old.pending + 6 ≤ old.journal.room → Makes (up_to 0 4 (48 * length old.pending + 6)) nothing before after
-  pub snapshot : old.journal.room < 48 * length old.pending + 6 → Makes (up_to 0 6 (3 + snapshot_size old.table)) nothing before after
-  pub disk : after.disk ≡ before.disk
+-- What a commit costs: that of the journal's, for the pending records and the rows.
+abbrev pub CostsOfFlush : (old : StoreView) (before after : Counts) → Type 0
+CostsOfFlush old before after = CostsOfCommit old.journal (length old.pending) old.table before after

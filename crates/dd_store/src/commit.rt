@@ -1,13 +1,12 @@
 // The journal commits the rows of a store.
-ghost use Rattle.std.specs.Prelude.{◌≡◌, ◌⊎◌, ◌+◌, ◌-◌, ◌*◌, ◌^◌, ◌<◌, ◌≤◌, [], ℕ, List, length, false, IsTrue, IsOk, OnOk, OnErr};
+ghost use Rattle.std.specs.Prelude.{◌≡◌, ◌-◌, ◌^◌, ◌<◌, ◌≤◌, [], ℕ, List, length, IsTrue, IsOk, OnOk};
 ghost use Rattle.dd_block.specs.declared.print.Fp.{Fp};
 ghost use Rattle.dd_rig.specs.declared.device.Dev.TheVariants.{Flash};
 ghost use Rattle.dd_rig.specs.Clock.{Elapses};
-ghost use Rattle.dd_rig.specs.Counts.{Frame, Rose, Makes, up_to, nothing};
 ghost use Rattle.dd_rig.specs.Leaves.{LeavesShown};
 ghost use Rattle.dd_layout.specs.Layout.{region_at, flash_need};
 ghost use Rattle.dd_model.specs.State.{State};
-ghost use Rattle.dd_journal.specs.Regions.{snapshot_size};
+ghost use Rattle.dd_journal.specs.Calls.{Commits, FailsByFlash, CostsOfCommit};
 ghost use Rattle.dd_journal.specs.Sitting.{MayCommit, regions_size};
 ghost use Rattle.dd_store.specs.Keeping.{StoreView, IsStore, Holds, Kept, slots_shown};
 ghost use Rattle.dd_store.specs.Committing.{StandForEither, AllStandForEither, with_parts, committed_store};
@@ -49,20 +48,11 @@ pub fn commit_rows<R: Rig, L: Lists>(
         → OnOk result (Holds print (committed_store (with_parts store journal.old (L.listing lists.now).table count pending.now) journal.new) (R.world rig.new) s) }
     ensures unsaid { R.tells → Elapses (R.clock rig.old) (R.clock rig.new) (λ o. o.out ≡ (R.world rig.old).said) }
     ensures empty { pending.now ≡ [] → IsOk result × (rig.new ≡ rig.old) × (journal.new ≡ journal.old) }
-    ensures ok { OnOk result (IsTrue journal.new.is_up × (journal.new.committed ≡ count)) }
-    ensures down { OnErr result (journal.new ≡ record journal.old { is_up = false }) }
-    ensures epoch { (journal.new.epoch ≡ journal.old.epoch) ⊎ (journal.new.epoch ≡ journal.old.epoch + 1) }
-    ensures geometry { journal.new.geo ≡ journal.old.geo }
-    ensures version { journal.new.version ≡ journal.old.version }
+    ensures commits { Commits result count (length pending.now) journal.old journal.new }
     ensures outside { R.tells → LeavesShown Flash (region_at journal.old.geo 0) (regions_size journal.old.geo) (R.world rig.old) (R.world rig.new) }
     ensures slots { R.tells → slots_shown journal.old.geo (R.world rig.new) ≡ slots_shown journal.old.geo (R.world rig.old) }
-    ensures cause { OnErr result (Rose (R.counts rig.old).flash.failed_writes (R.counts rig.new).flash.failed_writes) }
-    ensures calls { 48 * length pending.now + 6 ≤ journal.old.room
-        → Makes (up_to 0 4 (48 * length pending.now + 6)) nothing (R.counts rig.old) (R.counts rig.new) }
-    ensures snapshot_calls { journal.old.room < 48 * length pending.now + 6
-        → Makes (up_to 0 6 (3 + snapshot_size (L.listing lists.now).table)) nothing (R.counts rig.old) (R.counts rig.new) }
-    ensures disk { (R.counts rig.new).disk ≡ (R.counts rig.old).disk }
-    ensures frame { Frame (R.counts rig.old) (R.counts rig.new) (R.device_size rig.old) (R.device_size rig.new) }
+    ensures fails { FailsByFlash result (R.counts rig.old) (R.counts rig.new) (R.device_size rig.old) (R.device_size rig.new) }
+    ensures costs { CostsOfCommit journal.old (length pending.now) (L.listing lists.now).table (R.counts rig.old) (R.counts rig.new) }
 {
     journal.commit(rig, lists, count, pending)
 }

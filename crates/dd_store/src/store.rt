@@ -13,7 +13,7 @@ ghost use Rattle.dd_store.specs.Committing.{committed_store};
 ghost use Rattle.dd_store.specs.Laying.{MayLay, marked_store};
 ghost use Rattle.dd_store.specs.Saving.{AreUsesOf};
 ghost use Rattle.dd_store.specs.Serving.{store_of, HasLimits, IsReady, MayCall, Serves, HoldsThen, GrowsLittle, LaysOn, unlaid, downed};
-ghost use Rattle.dd_store.specs.Calls.{IsSilent, Rests, FailsBy, CostsOfCommit};
+ghost use Rattle.dd_store.specs.Calls.{IsSilent, Rests, FailsBy, CostsOfFlush};
 
 use crate::StoreFault;
 use crate::commit::commit_rows;
@@ -145,7 +145,7 @@ impl<F: Fingerprint, L: Lists> Store<F, L> {
         ensures rows { (self.new.store.count ≡ self.old.store.count) × (self.new.store.dirty ≡ self.old.store.dirty) }
         ensures fault { IfErr result (λ fault. fault ≡ FlashWrite) }
         ensures disk { CalledAtMost nothing (R.counts rig.old).disk (R.counts rig.new).disk }
-        ensures costs { CostsOfCommit self.old.store (R.counts rig.old) (R.counts rig.new) }
+        ensures costs { CostsOfFlush self.old.store (R.counts rig.old) (R.counts rig.new) }
         ensures rests { Rests result self.old self.new }
         ensures fails { FailsBy result (R.counts rig.old) (R.counts rig.new) (R.device_size rig.old) (R.device_size rig.new) }
     {
@@ -184,7 +184,7 @@ impl<F: Fingerprint, L: Lists> Store<F, L> {
         ensures store { OnOk result (self.new.store ≡ committed_store (unlaid self.old.store) self.new.store.journal) }
         ensures fault { IfErr result (λ fault. fault ≡ FlashWrite) }
         ensures grows { GrowsLittle self.old.store self.new.store }
-        ensures costs { CostsOfCommit self.old.store (R.counts rig.old) (R.counts rig.new) }
+        ensures costs { CostsOfFlush self.old.store (R.counts rig.old) (R.counts rig.new) }
         ensures rests { Rests result self.old self.new }
         ensures fails { FailsBy result (R.counts rig.old) (R.counts rig.new) (R.device_size rig.old) (R.device_size rig.new) }
     {

@@ -1,13 +1,13 @@
 use Rattle.dd_store.proofs.Untouched.{slots_outside}
-use Rattle.std.proofs.Common.{◌≡◌, ◌+◌, ℕ, ◌∙◌, sym, ap, subst, arith}
+use Rattle.std.proofs.Common.{◌≡◌, ℕ, ◌∙◌, length, sym, ap, subst, arith}
 use Rattle.std.specs.Prelude.{OnOk}
 use Rattle.dd_rig.specs.declared.device.Dev.{Dev}
 use Rattle.dd_rig.specs.declared.device.Dev.TheVariants.{Flash, Disk}
 use Rattle.dd_rig.specs.Clock.{Elapses}
 use Rattle.dd_rig.proofs.Moments.{widens}
 use Rattle.dd_record.specs.Table.{Table}
-use Rattle.dd_rig.specs.Counts.{Makes, up_to, nothing}
-use Rattle.dd_journal.specs.Regions.{table_of, snapshot_size}
+use Rattle.dd_journal.specs.Calls.{CostsOfCommit}
+use Rattle.dd_journal.specs.Regions.{table_of}
 use Rattle.dd_journal.specs.Sitting.{Leads, Sits, MayCommit, IsEither}
 use Rattle.dd_store.specs.Committing.{with_parts}
 use Rattle.dd_store.proofs.Moments.{elapses_both, unsaid_write}
@@ -66,14 +66,14 @@ returns-clause-kept g c = λ told print store was held is kept.
     let its_leads = subst (λ (t : Table). Leads c.args.journal.now world c.args.pending.now kept.rows t) (sym same) (leads print here world flash disk was held is kept) in
     let sits = subst (λ (t : Table). OnOk c.commit.result (Sits c.commit.new.self (g.R.Rig.world c.commit.new.rig) t)) same (c.commit.ensures.sits told kept.rows its_leads) in
     committed_ok print here world flash disk (omega (arith, sized, c.requires.flash)) was held is kept (g.R.Rig.world c.commit.new.rig) (g.met.R.Rig.shows_image c.commit.new.rig Flash told)
-    (sized_now ∙ ap (λ (size : Dev → ℕ). size Flash) c.commit.ensures.size ∙ sym sized) c.commit.new.self c.commit.ensures.geometry c.commit.ensures.version (c.commit.ensures.outside told)
-    (λ none. let same = c.commit.ensures.empty none in (ap g.R.Rig.world same.1, same.2)) c.commit.result c.commit.ensures.ok sits (c.commit.ensures.stable told)
+    (sized_now ∙ ap (λ (size : Dev → ℕ). size Flash) c.commit.ensures.fails.frame.1 ∙ sym sized) c.commit.new.self c.commit.ensures.commits.geometry c.commit.ensures.commits.version (c.commit.ensures.outside told)
+    (λ none. let same = c.commit.ensures.empty none in (ap g.R.Rig.world same.1, same.2)) c.commit.result c.commit.ensures.commits.ok sits (c.commit.ensures.stable told)
 
-pub returns-clause-snapshot_calls : goal.returns-clause-snapshot_calls
-returns-clause-snapshot_calls g c = λ full.
+pub returns-clause-costs : goal.returns-clause-costs
+returns-clause-costs g c =
     let lists = c.args.lists.now in
     let same : table_of (g.L.Rows.b_rows lists) (g.L.Rows.a_rows lists) ≡ (g.L.Lists.listing lists).table = λ i. record { b = g.met.L.Lists.same_b lists i; a = g.met.L.Lists.same_a lists i } in
-    subst (λ (t : Table). Makes (up_to 0 6 (3 + snapshot_size t)) nothing (g.R.Rig.counts c.args.rig.now) (g.R.Rig.counts c.commit.new.rig)) same (c.commit.ensures.snapshot_calls full)
+    subst (λ (t : Table). CostsOfCommit c.args.journal.now (length c.args.pending.now) t (g.R.Rig.counts c.args.rig.now) (g.R.Rig.counts c.commit.new.rig)) same c.commit.ensures.costs
 
 pub returns-clause-unsaid : goal.returns-clause-unsaid
 returns-clause-unsaid g c = λ told. unsaid_write Flash _ _ (g.R.Rig.world c.args.rig.now) (c.commit.ensures.time told)
@@ -86,12 +86,12 @@ returns-clause-holds g c = λ told print store held is holds.
     let sized = g.met.R.Rig.has_size c.args.rig.now Flash told in
     let sized_now = g.met.R.Rig.has_size c.commit.new.rig Flash told in
     on_ok c.commit.result
-    (holds_committed print here old new (g.met.R.Rig.shows_image c.args.rig.now Flash told) (g.met.R.Rig.shows_image c.commit.new.rig Flash told) (sized_now ∙ ap (λ (size : Dev → ℕ). size Flash) c.commit.ensures.size ∙ sym sized)
-    held is c.commit.new.self c.commit.ensures.geometry (c.commit.ensures.outside told) holds)
+    (holds_committed print here old new (g.met.R.Rig.shows_image c.args.rig.now Flash told) (g.met.R.Rig.shows_image c.commit.new.rig Flash told) (sized_now ∙ ap (λ (size : Dev → ℕ). size Flash) c.commit.ensures.fails.frame.1 ∙ sym sized)
+    held is c.commit.new.self c.commit.ensures.commits.geometry (c.commit.ensures.outside told) holds)
 
 pub returns-clause-slots : goal.returns-clause-slots
 returns-clause-slots g c = λ told.
     let sized = g.met.R.Rig.has_size c.args.rig.now Flash told in
     let sized_now = g.met.R.Rig.has_size c.commit.new.rig Flash told in
     slots_outside c.args.journal.now.geo (g.R.Rig.world c.args.rig.now) (g.R.Rig.world c.commit.new.rig) (g.met.R.Rig.shows_image c.args.rig.now Flash told) (g.met.R.Rig.shows_image c.commit.new.rig Flash told)
-    (sized_now ∙ ap (λ (size : Dev → ℕ). size Flash) c.commit.ensures.size ∙ sym sized) (c.commit.ensures.outside told)
+    (sized_now ∙ ap (λ (size : Dev → ℕ). size Flash) c.commit.ensures.fails.frame.1 ∙ sym sized) (c.commit.ensures.outside told)

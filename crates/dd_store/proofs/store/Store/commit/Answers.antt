@@ -12,7 +12,7 @@ pub invariant_of-self-in-Ok : goal.invariant_of-self-in-Ok
 invariant_of-self-in-Ok g c =
     let i = c.self.inside in
     let was : StoreView = store_of i.up i.journal (g.L.Lists.listing i.lists) i.count i.pending.items i.slots.uses i.laid.items in (
-      c.commit_rows.ensures.geometry ∙ c.self.invariant.0,
+      c.commit_rows.ensures.commits.geometry ∙ c.self.invariant.0,
       c.self.invariant.1,
       omega (arith, c.self.invariant.2, c.clear.ensures.capacity),
       omega (arith, c.self.invariant.3, c.clear-in-Ok.ensures.capacity),
@@ -23,7 +23,7 @@ invariant_of-self-in-Ok g c =
           let is : IsStore was = c.self.invariant.7 up in
           flushed_is (λ (v : StoreView). IsStore v) was c.commit_rows.new.journal c.clear-in-Ok.new.self.items c.settle.new.self.uses c.clear.new.self.items
           c.clear-in-Ok.ensures.items (ap (λ (v : SlotsView). v.uses) c.settle.ensures) c.clear.ensures.items
-          (committed_is (unlaid was) c.commit_rows.new.journal (unlaid_is was is) c.in-Ok.ensures.ok.0 c.commit_rows.ensures.geometry c.commit_rows.ensures.version c.in-Ok.ensures.ok.1),
+          (committed_is (unlaid was) c.commit_rows.new.journal (unlaid_is was is) c.in-Ok.ensures.commits.ok.0 c.commit_rows.ensures.commits.geometry c.commit_rows.ensures.commits.version c.in-Ok.ensures.commits.ok.1),
       omega (arith, ap length c.clear-in-Ok.ensures.items),
     )
 
