@@ -23,8 +23,6 @@ use Rattle.dd_journal.specs.declared.found.Placed.{Placed}
 use Rattle.dd_journal.specs.Faults.{journal_fault}
 use Rattle.dd_journal.specs.Logged.{placed_records}
 use Rattle.dd_journal.specs.Regions.{Reading, head_of, log_begins, records_of}
-use Rattle.dd_journal.specs.Sitting.{IsStable}
-use Rattle.dd_journal.proofs.Reaching.{synced_is_stable}
 use Rattle.dd_journal.proofs.Sole.{no_fault}
 use Rattle.dd_store.specs.Keeping.{Kept}
 use Rattle.dd_store.specs.Meaning.{Stands}
@@ -33,7 +31,6 @@ use Rattle.dd_recover.specs.declared.opening_fault.OpenFault.{OpenFault}
 use Rattle.dd_recover.specs.declared.opening_fault.OpenFault.TheVariants.{Memory, FlashRead, FlashWrite, DiskWrite, FlashSmall, DiskSmall, Super, NoRegion, Snapshot, Group, Worn, Version1}
 use Rattle.dd_recover.specs.Opening.{front_fault, small_for, body_fault, reading_fault, rows_fault, records_fault, version_fault, opening_of, misfit_at, first_unfit, unfit_or, IsFirstFault, IsYoung, TellsOpening, Opens}
 use Rattle.dd_recover.specs.Stages.{recs_of}
-use Rattle.dd_recover.specs.Writing.{settled}
 use Rattle.dd_recover.proofs.Replaying.{records_placed}
 use Rattle.dd_recover.proofs.Telling.{none_first}
 
@@ -109,21 +106,7 @@ opens_if F print printed geo (Err (Group region at)) new s size flash none told 
 opens_if F print printed geo (Err (Worn value)) new s size flash none told same kept = none (Worn value) told
 opens_if F print printed geo (Err Version1) new s size flash none told same kept = none Version1 told
 
--- devices that were synced and opened hold the state that they stood for
-pub kept_settled : (F : Type 0) (printed : List ℕ → Fp) (result : Result (StoreOf F) OpenFault) (old synced new : World) → synced ≡ settled old
-    → IfOk result (λ opened. (s : State) (stands : Stands printed synced.flash.shown synced.disk.shown s) → IsStable synced.flash → IsStable synced.disk
-    → (opened.store.journal.geo ≡ stands.geo) × Kept printed opened.store new s s)
-    → IfOk result (λ opened. (s : State) (stands : Stands printed old.flash.shown old.disk.shown s) → (opened.store.journal.geo ≡ stands.geo) × Kept printed opened.store new s s)
-kept_settled F printed result old synced new is kept =
-    IfOk-weaker result
-    (λ opened. (s : State) (stands : Stands printed old.flash.shown old.disk.shown s) → IsStable (settled old).flash → IsStable (settled old).disk → (opened.store.journal.geo ≡ stands.geo) × Kept printed opened.store new s s)
-    (λ opened. (s : State) (stands : Stands printed old.flash.shown old.disk.shown s) → (opened.store.journal.geo ≡ stands.geo) × Kept printed opened.store new s s)
-    (λ opened at s stands. at s stands (synced_is_stable old.flash) (synced_is_stable old.disk))
-    (subst
-    (λ (w : World). IfOk result (λ opened. (s : State) (stands : Stands printed w.flash.shown w.disk.shown s) → IsStable w.flash → IsStable w.disk → (opened.store.journal.geo ≡ stands.geo) × Kept printed opened.store new s s))
-    is kept)
-
--- and where their snapshot is young they are opened
+-- where the snapshot of such devices is young they are opened
 pub opens_settled : (F : Type 0) (print : F) (printed : List ℕ → Fp) (result : Result (StoreOf F) OpenFault) (flash disk : List ℕ) (new : World) (size : Dev → ℕ)
     → length flash ≡ size Flash → length disk ≡ size Disk → TellsOpening result size flash → IfOk result (λ opened. opened.print ≡ print)
     → IfOk result (λ opened. (s : State) (stands : Stands printed flash disk s) → (opened.store.journal.geo ≡ stands.geo) × Kept printed opened.store new s s)

@@ -1,10 +1,12 @@
 -- What a format refuses, and what it leaves.
-use Rattle.std.specs.Prelude.{◌≡◌, ◌≢◌, ◌⊎◌, ℕ, ◌≤◌, ◌==◌, nat_lt, List, [], ◌∷◌, ◌++◌, length, Option, Some, None, Result, Ok, Err, if◌then◌else◌, slice_index}
+use Rattle.std.specs.Prelude.{◌≡◌, ◌≢◌, ◌⊎◌, ℕ, ◌≤◌, ◌==◌, nat_lt, List, [], ◌∷◌, ◌++◌, length, Option, Some, None, Result, Ok, Err, if◌then◌else◌, slice_index, ⊤}
 use Rattle.std.specs.Option.{option_or}
 use Rattle.dd_block.specs.declared.print.Fp.{Fp}
 use Rattle.dd_block.specs.declared.geometry.Geometry.{Geometry}
 use Rattle.dd_rig.specs.declared.device.Dev.{Dev}
 use Rattle.dd_rig.specs.declared.device.Dev.TheVariants.{Flash, Disk}
+use Rattle.dd_rig.specs.declared.tallies.Counts.{Counts}
+use Rattle.dd_rig.specs.Counts.{Rose}
 use Rattle.dd_rig.specs.World.{World, shown}
 use Rattle.dd_block.specs.Bytes.{StandsAt}
 use Rattle.dd_layout.specs.Layout.{region_bytes, flash_need, disk_need}
@@ -57,6 +59,13 @@ IsEarly (Ok done) = ⊥
 IsEarly (Err FlashWrite) = ⊥
 IsEarly (Err DiskWrite) = ⊥
 IsEarly (Err early) = Unit {0}
+
+-- the count that tells of a failed call
+abbrev pub FormatFaulted : FormatFault → Counts → Counts → Type 0
+FormatFaulted FlashRead before after = Rose before.flash.failed_reads after.flash.failed_reads
+FormatFaulted FlashWrite before after = Rose before.flash.failed_writes after.flash.failed_writes
+FormatFaulted DiskWrite before after = Rose before.disk.failed_writes after.disk.failed_writes
+FormatFaulted other before after = ⊤
 
 -- the array as a disk has it, with empty lists and no references
 abbrev pub formatted_state : Geometry → List ℕ → State

@@ -4,13 +4,14 @@ ghost use Rattle.dd_block.specs.declared.print.Fp.{Fp};
 ghost use Rattle.dd_block.specs.Geometry.{GivesFault};
 ghost use Rattle.dd_rig.specs.declared.device.Dev.TheVariants.{Flash as FlashDevice, Disk as DiskDevice};
 ghost use Rattle.dd_rig.specs.Device.{IsImage};
-ghost use Rattle.dd_rig.specs.World.{IsOwn, World, shown, WithinWrite};
+ghost use Rattle.dd_rig.specs.World.{IsOwn, shown, WithinWrite};
 ghost use Rattle.dd_rig.specs.Clock.{Elapses, AddsNone};
-ghost use Rattle.dd_rig.specs.Counts.{NeverFalls, Rose, Makes, up_to, nothing};
-ghost use Rattle.dd_rig.specs.Leaves.{SameOutside, LeavesShown};
+ghost use Rattle.dd_rig.specs.Counts.{Frame, Rose, Makes, up_to, nothing};
+ghost use Rattle.dd_rig.specs.Leaves.{LeavesShown};
 ghost use Rattle.dd_layout.specs.Layout as layout;
 ghost use Rattle.dd_journal.specs.Sitting.{regions_size};
-ghost use Rattle.dd_recover.specs.Formatting.{small_fault, format_fault, TellsSmall, TellsFault, IsSmall, IsEarly, IsFormatted, IsUnusedOrFormatted, first_text};
+ghost use Rattle.dd_recover.specs.Calls.{FailsBy, CostsOfFormat, LeavesOfFormat};
+ghost use Rattle.dd_recover.specs.Formatting.{small_fault, format_fault, TellsSmall, TellsFault, IsSmall, IsEarly, IsFormatted, IsUnusedOrFormatted, FormatFaulted, first_text};
 ghost use Rattle.dd_recover.specs.Writing.{settled, with_regions, formatted_world, WithinFormat, Unsynced};
 
 use crate::FormatFault;
@@ -37,18 +38,11 @@ pub fn format_flash<R: Rig>(rig: &mut R, geo: Geometry) -> Result<(), FormatFaul
     // its answer
     ensures small { TellsSmall result (small_fault geo (R.device_size rig.old)) }
     ensures fault { R.tells → TellsFault result (format_fault geo (R.device_size rig.old) (shown FlashDevice (R.world rig.old))) }
-    ensures read { result ≡ Err FormatFault.FlashRead → Rose (R.counts rig.old).flash.failed_reads (R.counts rig.new).flash.failed_reads }
-    ensures write { result ≡ Err FormatFault.FlashWrite → Rose (R.counts rig.old).flash.failed_writes (R.counts rig.new).flash.failed_writes }
-    ensures disk_write { result ≡ Err FormatFault.DiskWrite → Rose (R.counts rig.old).disk.failed_writes (R.counts rig.new).disk.failed_writes }
+    ensures fails { FailsBy FormatFaulted result (R.counts rig.old) (R.counts rig.new) (R.device_size rig.old) (R.device_size rig.new) }
+
+    // what it costs
     ensures sized { IsSmall result → rig.new ≡ rig.old }
-    ensures early { IsEarly result → Makes (up_to 1 0 0) nothing (R.counts rig.old) (R.counts rig.new) }
-    ensures order { result ≡ Err FormatFault.DiskWrite → Rose (R.counts rig.old).flash.writes (R.counts rig.new).flash.writes }
-    ensures unwritten { result ≡ Err FormatFault.DiskWrite → Makes (up_to 1 1 0) (up_to 0 1 0) (R.counts rig.old) (R.counts rig.new) }
-    ensures kept { R.tells → result ≡ Err FormatFault.DiskWrite → shown FlashDevice (R.world rig.new) ≡ shown FlashDevice (R.world rig.old) }
-    ensures idle { R.tells → IsEarly result → R.world rig.new ≡ R.world rig.old }
-    ensures calls { Makes (up_to 1 7 99) (up_to 0 1 0) (R.counts rig.old) (R.counts rig.new) }
-    ensures later { NeverFalls (R.counts rig.old) (R.counts rig.new) }
-    ensures size { R.device_size rig.new ≡ R.device_size rig.old }
+    ensures costs { CostsOfFormat result (R.counts rig.old) (R.counts rig.new) }
 
     // what it leaves
     ensures ok { R.tells → OnOk result ((print : List ℕ → Fp) (flash disk : List ℕ)
@@ -57,10 +51,8 @@ pub fn format_flash<R: Rig>(rig: &mut R, geo: Geometry) -> Result<(), FormatFaul
         (λ o. IsUnusedOrFormatted print geo (R.world rig.old) o.flash o.disk) }
     ensures now { R.tells → (print : List ℕ → Fp) (flash disk : List ℕ) → IsImage (R.world rig.new).flash flash → IsImage (R.world rig.new).disk disk
         → IsOwn (R.world rig.old) flash disk ⊎ IsUnusedOrFormatted print geo (R.world rig.old) flash disk }
+    ensures leaves { R.tells → LeavesOfFormat geo result (R.world rig.old) (R.world rig.new) }
     ensures time { R.tells → Elapses (R.clock rig.old) (R.clock rig.new) (WithinWrite FlashDevice 0 (64 + regions_size geo) (R.world rig.old)) }
-    ensures outside { R.tells → SameOutside 0 (64 + regions_size geo) (shown FlashDevice (R.world rig.old)) (shown FlashDevice (R.world rig.new)) }
-    ensures disk { R.tells → shown DiskDevice (R.world rig.new) ≡ shown DiskDevice (R.world rig.old) }
-    ensures said { R.tells → (R.world rig.new).said ≡ (R.world rig.old).said }
 {
     test(rig, geo)?;
     settle(rig)?;
@@ -75,13 +67,11 @@ fn test<R: Rig>(rig: &mut R, geo: Geometry) -> Result<(), FormatFault>
     ensures sized { IsSmall result → rig.new ≡ rig.old }
     ensures unused { R.tells → OnOk result (slice_index (shown FlashDevice (R.world rig.old)) 0 ≢ 1) }
     ensures early { OnErr result (IsEarly result) }
-    ensures read { result ≡ Err FormatFault.FlashRead → Rose (R.counts rig.old).flash.failed_reads (R.counts rig.new).flash.failed_reads }
     ensures world { R.tells → R.world rig.new ≡ R.world rig.old }
     ensures time { R.tells → AddsNone (R.clock rig.old) (R.clock rig.new) }
     ensures still { (R.counts rig.new).flash.writes ≡ (R.counts rig.old).flash.writes }
     ensures calls { Makes (up_to 1 0 0) nothing (R.counts rig.old) (R.counts rig.new) }
-    ensures later { NeverFalls (R.counts rig.old) (R.counts rig.new) }
-    ensures size { R.device_size rig.new ≡ R.device_size rig.old }
+    ensures fails { FailsBy FormatFaulted result (R.counts rig.old) (R.counts rig.new) (R.device_size rig.old) (R.device_size rig.new) }
 {
     test_sizes(rig, geo)?;
     let mut gate = [0];
@@ -124,8 +114,7 @@ fn settle<R: Rig>(rig: &mut R) -> Result<(), FormatFault>
     ensures order { result ≡ Err FormatFault.DiskWrite → Rose (R.counts rig.old).flash.writes (R.counts rig.new).flash.writes }
     ensures cause { IfErr result (λ fault. Unsynced fault (R.counts rig.old) (R.counts rig.new)) }
     ensures calls { Makes (up_to 0 1 0) (up_to 0 1 0) (R.counts rig.old) (R.counts rig.new) }
-    ensures later { NeverFalls (R.counts rig.old) (R.counts rig.new) }
-    ensures size { R.device_size rig.new ≡ R.device_size rig.old }
+    ensures frame { Frame (R.counts rig.old) (R.counts rig.new) (R.device_size rig.old) (R.device_size rig.new) }
 {
     rig.sync(Dev::Flash).map_err(|_| FormatFault::FlashWrite)?;
     rig.sync(Dev::Disk).map_err(|_| FormatFault::DiskWrite)
@@ -137,10 +126,9 @@ fn write_flash<R: Rig>(rig: &mut R, geo: Geometry) -> Result<(), Failed>
     ensures ok { R.tells → OnOk result (R.world rig.new ≡ formatted_world geo (R.world rig.old)) }
     ensures outside { R.tells → LeavesShown FlashDevice 0 (64 + regions_size geo) (R.world rig.old) (R.world rig.new) }
     ensures time { R.tells → Elapses (R.clock rig.old) (R.clock rig.new) (WithinFormat geo (R.world rig.old)) }
-    ensures later { NeverFalls (R.counts rig.old) (R.counts rig.new) }
     ensures cause { OnErr result (Rose (R.counts rig.old).flash.failed_writes (R.counts rig.new).flash.failed_writes) }
     ensures calls { Makes (up_to 0 6 99) nothing (R.counts rig.old) (R.counts rig.new) }
-    ensures size { R.device_size rig.new ≡ R.device_size rig.old }
+    ensures frame { Frame (R.counts rig.old) (R.counts rig.new) (R.device_size rig.old) (R.device_size rig.new) }
 {
     write_regions(rig, geo)?;
     let mut text = [0; 64];
@@ -155,10 +143,9 @@ fn write_regions<R: Rig>(rig: &mut R, geo: Geometry) -> Result<(), Failed>
     ensures outside { R.tells → LeavesShown FlashDevice (layout.region_at geo 0) (regions_size geo) (R.world rig.old) (R.world rig.new) }
     ensures time { R.tells → Elapses (R.clock rig.old) (R.clock rig.new)
         (WithinWrite FlashDevice (layout.region_at geo 0) (regions_size geo) (R.world rig.old)) }
-    ensures later { NeverFalls (R.counts rig.old) (R.counts rig.new) }
     ensures cause { OnErr result (Rose (R.counts rig.old).flash.failed_writes (R.counts rig.new).flash.failed_writes) }
     ensures calls { Makes (up_to 0 2 35) nothing (R.counts rig.old) (R.counts rig.new) }
-    ensures size { R.device_size rig.new ≡ R.device_size rig.old }
+    ensures frame { Frame (R.counts rig.old) (R.counts rig.new) (R.device_size rig.old) (R.device_size rig.new) }
 {
     rig.write(Dev::Flash, region_at(geo, 1), &[0])?;
     rig.write(Dev::Flash, region_at(geo, 0), &first_text())

@@ -1,13 +1,12 @@
 // Opening what both devices stand for.
-ghost use Rattle.std.specs.Prelude.{◌≡◌, ◌<◌, ◌≤◌, ◌^◌, ℕ, List, Some, take, option_map, Err, IfOk, OnOk, OnErr, IfErr};
+ghost use Rattle.std.specs.Prelude.{◌≡◌, ◌<◌, ◌≤◌, ◌^◌, Some, take, option_map, Err, IfOk, OnOk, OnErr};
 ghost use Rattle.dd_block.specs.Bytes.{StandsAt};
 ghost use Rattle.dd_block.specs.Geometry.{GivesFault};
 ghost use Rattle.dd_rig.specs.declared.device.Dev.{Dev as AnyDevice};
 ghost use Rattle.dd_rig.specs.declared.device.Dev.TheVariants.{Flash as FlashDevice, Disk as DiskDevice};
-ghost use Rattle.dd_rig.specs.Device.{IsImage};
-ghost use Rattle.dd_rig.specs.World.{IsOwn, shown};
+ghost use Rattle.dd_rig.specs.World.{shown};
 ghost use Rattle.dd_rig.specs.Clock.{AddsNone};
-ghost use Rattle.dd_rig.specs.Counts.{Frame, Makes, Rose, up_to, nothing};
+ghost use Rattle.dd_rig.specs.Counts.{Makes, Rose, up_to, nothing};
 ghost use Rattle.dd_layout.specs.Layout as layout;
 ghost use Rattle.dd_layout.specs.Super.{super_text};
 ghost use Rattle.dd_record.specs.Table.{Table, RowsFit};
@@ -19,6 +18,7 @@ ghost use Rattle.dd_journal.specs.Regions.{Says};
 ghost use Rattle.dd_journal.specs.Sitting.{IsStable, Sits};
 ghost use Rattle.dd_store.specs.Keeping.{Kept};
 ghost use Rattle.dd_store.specs.Meaning.{Stands};
+ghost use Rattle.dd_recover.specs.Calls.{FailsBy, HoldsShown, CostsOfOpening, LeavesOfOpening};
 ghost use Rattle.dd_recover.specs.Opening.{TellsOpening, Opens, IsYoung, IsOpened, IsUnsynced, OpenFaulted, front_fault, small_for, body_fault, opening_of};
 ghost use Rattle.dd_recover.specs.Stages.{Tells, IsCallFault, found_fault, FoundMeans, HasFound};
 ghost use Rattle.dd_recover.specs.Writing.{settled};
@@ -49,24 +49,14 @@ pub fn open_store<F: Fingerprint, L: Lists, R: Rig>(
     ensures opens { R.tells → (s : State) → (stands : Stands (F.printed print) (shown FlashDevice (R.world rig.old)) (shown DiskDevice (R.world rig.old)) s) → IsYoung stands
         → Opens print (F.printed print) stands.geo result (R.world rig.new) s }
     ensures fault { R.tells → TellsOpening result (R.device_size rig.old) (shown FlashDevice (R.world rig.old)) }
-    ensures opened { IfOk result (λ opened. IsOpened opened.store (R.device_size rig.old)) }
-    ensures kept { R.tells → IfOk result (λ opened. (s : State) (stands : Stands (F.printed print) (shown FlashDevice (R.world rig.old)) (shown DiskDevice (R.world rig.old)) s)
-        → (opened.store.journal.geo ≡ stands.geo) × Kept (F.printed print) opened.store (R.world rig.new) s s) }
-    ensures says { R.tells → IfOk result (λ opened. Says (shown FlashDevice (R.world rig.old)) opened.store.journal.geo 2 opened.store.table opened.store.count) }
-    ensures sits { R.tells → IfOk result (λ opened. Sits opened.store.journal (R.world rig.new) opened.store.table) }
-    ensures print { IfOk result (λ opened. opened.print ≡ print) }
-    ensures cause { IfErr result (λ fault. OpenFaulted fault (R.counts rig.old) (R.counts rig.new)) }
+    ensures opened { IfOk result (λ opened. IsOpened opened.store (R.device_size rig.old) × (opened.print ≡ print)) }
+    ensures holds { R.tells → IfOk result (λ opened. HoldsShown (F.printed print) opened.store (R.world rig.old) (R.world rig.new)) }
+    ensures fails { FailsBy OpenFaulted result (R.counts rig.old) (R.counts rig.new) (R.device_size rig.old) (R.device_size rig.new) }
 
-    // what it leaves
+    // what it costs and leaves
+    ensures costs { CostsOfOpening result (R.counts rig.old) (R.counts rig.new) }
+    ensures leaves { R.tells → LeavesOfOpening result (R.world rig.old) (R.world rig.new) }
     ensures time { R.tells → AddsNone (R.clock rig.old) (R.clock rig.new) }
-    ensures own { R.tells → (flash disk : List ℕ) → IsImage (R.world rig.new).flash flash → IsImage (R.world rig.new).disk disk → IsOwn (R.world rig.old) flash disk }
-    ensures stable { R.tells → (IsUnsynced result → ⊥) → IsStable (R.world rig.new).flash × IsStable (R.world rig.new).disk }
-    ensures shows { R.tells → (device : AnyDevice) → shown device (R.world rig.new) ≡ shown device (R.world rig.old) }
-    ensures said { R.tells → (R.world rig.new).said ≡ (R.world rig.old).said }
-    ensures order { result ≡ Err OpenFault.DiskWrite → Rose (R.counts rig.old).flash.writes (R.counts rig.new).flash.writes }
-    ensures unsynced { IsUnsynced result → Makes (up_to 0 1 0) (up_to 0 1 0) (R.counts rig.old) (R.counts rig.new) }
-    ensures calls { Makes (up_to 4 1 0) (up_to 0 1 0) (R.counts rig.old) (R.counts rig.new) }
-    ensures frame { Frame (R.counts rig.old) (R.counts rig.new) (R.device_size rig.old) (R.device_size rig.new) }
 {
     sync_both(rig)?;
     open_settled(alloc, rig, print)
@@ -80,9 +70,8 @@ fn sync_both<R: Rig>(rig: &mut R) -> Result<(), OpenFault>
     ensures said { R.tells → (R.world rig.new).said ≡ (R.world rig.old).said }
     ensures time { R.tells → AddsNone (R.clock rig.old) (R.clock rig.new) }
     ensures order { result ≡ Err OpenFault.DiskWrite → Rose (R.counts rig.old).flash.writes (R.counts rig.new).flash.writes }
-    ensures cause { IfErr result (λ fault. OpenFaulted fault (R.counts rig.old) (R.counts rig.new)) }
     ensures calls { Makes (up_to 0 1 0) (up_to 0 1 0) (R.counts rig.old) (R.counts rig.new) }
-    ensures frame { Frame (R.counts rig.old) (R.counts rig.new) (R.device_size rig.old) (R.device_size rig.new) }
+    ensures fails { FailsBy OpenFaulted result (R.counts rig.old) (R.counts rig.new) (R.device_size rig.old) (R.device_size rig.new) }
 {
     rig.sync(Dev::Flash).map_err(|_| OpenFault::FlashWrite)?;
     rig.sync(Dev::Disk).map_err(|_| OpenFault::DiskWrite)
@@ -103,11 +92,10 @@ fn open_settled<F: Fingerprint, L: Lists, R: Rig>(
     ensures sits { R.tells → IfOk result (λ opened. IsStable (R.world rig.old).flash → Sits opened.store.journal (R.world rig.new) opened.store.table) }
     ensures print { IfOk result (λ opened. opened.print ≡ print) }
     ensures synced { IsUnsynced result → ⊥ }
-    ensures cause { IfErr result (λ fault. OpenFaulted fault (R.counts rig.old) (R.counts rig.new)) }
     ensures world { R.tells → R.world rig.new ≡ R.world rig.old }
     ensures time { R.tells → AddsNone (R.clock rig.old) (R.clock rig.new) }
     ensures calls { Makes (up_to 4 0 0) nothing (R.counts rig.old) (R.counts rig.new) }
-    ensures frame { Frame (R.counts rig.old) (R.counts rig.new) (R.device_size rig.old) (R.device_size rig.new) }
+    ensures fails { FailsBy OpenFaulted result (R.counts rig.old) (R.counts rig.new) (R.device_size rig.old) (R.device_size rig.new) }
 {
     let geo = read_geometry(rig)?;
     let found = find_sized(alloc, rig, geo)?;
@@ -119,11 +107,10 @@ fn read_geometry<R: Rig>(rig: &mut R) -> Result<Geometry, OpenFault>
     ensures fault { R.tells → Tells result (front_fault (R.device_size rig.old) (shown FlashDevice (R.world rig.old))) }
     ensures geometry { R.tells → IfOk result (λ geo. take 64 (shown FlashDevice (R.world rig.old)) ≡ super_text geo) }
     ensures synced { IsUnsynced result → ⊥ }
-    ensures cause { IfErr result (λ fault. OpenFaulted fault (R.counts rig.old) (R.counts rig.new)) }
     ensures world { R.tells → R.world rig.new ≡ R.world rig.old }
     ensures time { R.tells → AddsNone (R.clock rig.old) (R.clock rig.new) }
     ensures calls { Makes (up_to 1 0 0) nothing (R.counts rig.old) (R.counts rig.new) }
-    ensures frame { Frame (R.counts rig.old) (R.counts rig.new) (R.device_size rig.old) (R.device_size rig.new) }
+    ensures fails { FailsBy OpenFaulted result (R.counts rig.old) (R.counts rig.new) (R.device_size rig.old) (R.device_size rig.new) }
 {
     let have = rig.size(Dev::Flash);
     if have < 64 {
@@ -164,11 +151,10 @@ fn find_sized<R: Rig>(alloc: Global, rig: &mut R, geo: Geometry) -> Result<Found
         → RowsFit (found_table found) → replay geo.acap geo.bcap (found_records found) (found_table found) ≡ Some committed
         → Sits found.journal (R.world rig.new) committed) }
     ensures synced { IsUnsynced result → ⊥ }
-    ensures cause { IfErr result (λ fault. OpenFaulted fault (R.counts rig.old) (R.counts rig.new)) }
     ensures world { R.tells → R.world rig.new ≡ R.world rig.old }
     ensures time { R.tells → AddsNone (R.clock rig.old) (R.clock rig.new) }
     ensures calls { Makes (up_to 3 0 0) nothing (R.counts rig.old) (R.counts rig.new) }
-    ensures frame { Frame (R.counts rig.old) (R.counts rig.new) (R.device_size rig.old) (R.device_size rig.new) }
+    ensures fails { FailsBy OpenFaulted result (R.counts rig.old) (R.counts rig.new) (R.device_size rig.old) (R.device_size rig.new) }
 {
     check_sizes(rig, geo)?;
     find_journal(alloc, rig, geo)
@@ -184,11 +170,10 @@ fn find_journal<R: Rig>(alloc: Global, rig: &mut R, geo: Geometry) -> Result<Fou
         → RowsFit (found_table found) → replay geo.acap geo.bcap (found_records found) (found_table found) ≡ Some committed
         → Sits found.journal (R.world rig.new) committed) }
     ensures synced { IsUnsynced result → ⊥ }
-    ensures cause { IfErr result (λ fault. OpenFaulted fault (R.counts rig.old) (R.counts rig.new)) }
     ensures world { R.tells → R.world rig.new ≡ R.world rig.old }
     ensures time { R.tells → AddsNone (R.clock rig.old) (R.clock rig.new) }
     ensures calls { Makes (up_to 3 0 0) nothing (R.counts rig.old) (R.counts rig.new) }
-    ensures frame { Frame (R.counts rig.old) (R.counts rig.new) (R.device_size rig.old) (R.device_size rig.new) }
+    ensures fails { FailsBy OpenFaulted result (R.counts rig.old) (R.counts rig.new) (R.device_size rig.old) (R.device_size rig.new) }
 {
     match Journal::find(alloc, rig, geo) {
         Ok(found) => Ok(found),

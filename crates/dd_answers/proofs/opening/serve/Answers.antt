@@ -30,7 +30,7 @@ returns-in-Err-clause-crash g c = λ t u from.
     let within : Elapses (g.R.Rig.clock c.open_store.new.rig) (g.R.Rig.clock c.finish.new.rig) (WithinLast (ending_line (ending_of c.in-Err.fault)) middle) =
     subst (λ (e : Ending). Elapses (g.R.Rig.clock c.open_store.new.rig) (g.R.Rig.clock c.finish.new.rig) (WithinLast (ending_line e) middle)) c.ending_of-ending.ensures (c.finish.ensures.within t) in
     goes_on (widens (c.open_store.ensures.time t) (λ o none. absurd none)) within
-    (λ o w. inl (unopened_within c.in-Err.fault s old middle (c.open_store.ensures.said t) (c.open_store.ensures.own t) o w))
+    (λ o w. inl (unopened_within c.in-Err.fault s old middle (c.open_store.ensures.leaves t).said (c.open_store.ensures.leaves t).own o w))
 
 pub returns-in-Err-clause-left : goal.returns-in-Err-clause-left
 returns-in-Err-clause-left g c = λ t u from o may.
@@ -40,7 +40,7 @@ returns-in-Err-clause-left g c = λ t u from o may.
     let s : Stops c.in-Err.fault = stops c.args.print print from.stands.geo c.in-Err.fault middle from.start (c.in-Err.ensures.opens t from.start from.stands from.young) in
     let says : SaysLast (ending_line (ending_of c.in-Err.fault)) (g.R.Rig.counts c.open_store.new.rig) (g.R.Rig.counts c.finish.new.rig) middle (g.R.Rig.world c.finish.new.rig) =
     subst (λ (e : Ending). SaysLast (ending_line e) (g.R.Rig.counts c.open_store.new.rig) (g.R.Rig.counts c.finish.new.rig) middle (g.R.Rig.world c.finish.new.rig)) c.ending_of-ending.ensures (c.finish.ensures.said t) in
-    inl (unopened_behind c.in-Err.fault s old middle (c.open_store.ensures.said t) (c.open_store.ensures.own t) (g.R.Rig.world c.finish.new.rig) (g.R.Rig.counts c.open_store.new.rig) (g.R.Rig.counts c.finish.new.rig)
+    inl (unopened_behind c.in-Err.fault s old middle (c.open_store.ensures.leaves t).said (c.open_store.ensures.leaves t).own (g.R.Rig.world c.finish.new.rig) (g.R.Rig.counts c.open_store.new.rig) (g.R.Rig.counts c.finish.new.rig)
     says (c.finish.ensures.devices t).0 (c.finish.ensures.devices t).1 o may)
 
 pub returns-in-Err-clause-serves : goal.returns-in-Err-clause-serves
@@ -54,63 +54,63 @@ returns-in-Err-clause-serves g c = λ t u from.
     subst (λ (e : Ending). SaysLast (ending_line e) (g.R.Rig.counts c.open_store.new.rig) (g.R.Rig.counts c.finish.new.rig) middle new) c.ending_of-ending.ensures (c.finish.ensures.said t) in
     subst (λ (status : ℕ). Serves print (sizes_of from.stands.geo) from.start (g.S.Source.rest c.args.source.now) 1 status old new (g.R.Rig.counts c.args.rig.now) (g.R.Rig.counts c.finish.new.rig))
     (sym (c.finish.ensures.status ∙ ap status_of c.ending_of-ending.ensures))
-    (serves_unopened c.in-Err.fault s old middle (c.open_store.ensures.said t) (c.open_store.ensures.own t) print (sizes_of from.stands.geo) from.start (g.S.Source.rest c.args.source.now) 1 new
-    (g.R.Rig.counts c.args.rig.now) (g.R.Rig.counts c.open_store.new.rig) (g.R.Rig.counts c.finish.new.rig) c.open_store.ensures.frame.0 c.finish.ensures.frame.0 says)
+    (serves_unopened c.in-Err.fault s old middle (c.open_store.ensures.leaves t).said (c.open_store.ensures.leaves t).own print (sizes_of from.stands.geo) from.start (g.S.Source.rest c.args.source.now) 1 new
+    (g.R.Rig.counts c.args.rig.now) (g.R.Rig.counts c.open_store.new.rig) (g.R.Rig.counts c.finish.new.rig) c.open_store.ensures.fails.1.0 c.finish.ensures.frame.0 says)
 
 pub returns-in-Err-clause-quiet : goal.returns-in-Err-clause-quiet
 returns-in-Err-clause-quiet g c = λ t u from quiet still bounded.
     inr (c.finish.ensures.status ∙ ap status_of c.ending_of-ending.ensures
     ∙ quiet_fault c.args.print (g.F.Fingerprint.printed c.args.print) from.stands.geo c.in-Err.fault (g.R.Rig.world c.open_store.new.rig) from.start (g.R.Rig.counts c.args.rig.now) (g.R.Rig.counts c.open_store.new.rig) (g.R.Rig.counts c.finish.new.rig)
-    (c.in-Err.ensures.opens t from.start from.stands from.young) c.in-Err.ensures.cause c.finish.ensures.frame.0 quiet)
+    (c.in-Err.ensures.opens t from.start from.stands from.young) c.in-Err.ensures.fails.0 c.finish.ensures.frame.0 quiet)
 
 pub returns-in-Err-clause-refused : goal.returns-in-Err-clause-refused
 returns-in-Err-clause-refused g c = λ t three.
     let first = refuses_first c.args.print c.in-Err.fault (g.R.Rig.device_size c.args.rig.now) (g.R.Rig.world c.args.rig.now).flash.shown (c.in-Err.ensures.fault t) (sym (c.finish.ensures.status ∙ ap status_of c.ending_of-ending.ensures) ∙ three) in
     refuses_so c.in-Err.fault (g.R.Rig.device_size c.args.rig.now) (g.R.Rig.counts c.args.rig.now) (g.R.Rig.counts c.open_store.new.rig) (g.R.Rig.counts c.finish.new.rig) (g.R.Rig.world c.args.rig.now) (g.R.Rig.world c.open_store.new.rig)
-    (g.R.Rig.world c.finish.new.rig) first c.ending_of-ending.result c.ending_of-ending.ensures c.open_store.ensures.frame.0 (c.open_store.ensures.said t) (c.open_store.ensures.shows t) (c.finish.ensures.said t) (c.finish.ensures.devices t)
+    (g.R.Rig.world c.finish.new.rig) first c.ending_of-ending.result c.ending_of-ending.ensures c.open_store.ensures.fails.1.0 (c.open_store.ensures.leaves t).said (c.open_store.ensures.leaves t).shows (c.finish.ensures.said t) (c.finish.ensures.devices t)
 
 pub returns-in-Ok-clause-crash : goal.returns-in-Ok-clause-crash
 returns-in-Ok-clause-crash g c = λ t u from.
     let old : World = g.R.Rig.world c.args.rig.now in
     let script : List ℕ = g.S.Source.rest c.args.source.now in
-    let kept = c.in-Ok.ensures.kept t from.start from.stands in
-    let printed = ap g.F.Fingerprint.printed c.in-Ok.ensures.print in
+    let kept = (c.in-Ok.ensures.holds t).kept from.start from.stands in
+    let printed = ap g.F.Fingerprint.printed c.in-Ok.ensures.opened.1 in
     let call = c.end_store.ensures.crash t u from.start (subst (λ (p : List ℕ → Fp). Kept p c.in-Ok.store.store (g.R.Rig.world c.open_store.new.rig) from.start from.start) (sym printed) kept.1) in
     let served : Elapses (g.R.Rig.clock c.open_store.new.rig) (g.R.Rig.clock c.end_store.new.rig) (Headline (g.F.Fingerprint.printed c.args.print) (sizes_of from.stands.geo) from.start (commands_of (dialect_of (sizes_of from.stands.geo)) script) old.said) =
     by_three (λ (p : List ℕ → Fp) (geo : Geometry) (said : List ℕ). Elapses (g.R.Rig.clock c.open_store.new.rig) (g.R.Rig.clock c.end_store.new.rig) (Headline p (sizes_of geo) from.start (commands_of (dialect_of (sizes_of geo)) script) said))
-    printed kept.0 (c.open_store.ensures.said t) call in
+    printed kept.0 (c.open_store.ensures.leaves t).said call in
     goes_on (widens (c.open_store.ensures.time t) (λ o none. absurd none)) served (λ o h. inr h)
 
 pub returns-in-Ok-clause-left : goal.returns-in-Ok-clause-left
 returns-in-Ok-clause-left g c = λ t u from o may.
     let script : List ℕ = g.S.Source.rest c.args.source.now in
-    let kept = c.in-Ok.ensures.kept t from.start from.stands in
-    let printed = ap g.F.Fingerprint.printed c.in-Ok.ensures.print in
+    let kept = (c.in-Ok.ensures.holds t).kept from.start from.stands in
+    let printed = ap g.F.Fingerprint.printed c.in-Ok.ensures.opened.1 in
     inr (by_three (λ (p : List ℕ → Fp) (geo : Geometry) (said : List ℕ). Headline p (sizes_of geo) from.start (commands_of (dialect_of (sizes_of geo)) script) said o)
-    printed kept.0 (c.open_store.ensures.said t)
+    printed kept.0 (c.open_store.ensures.leaves t).said
     (c.end_store.ensures.left t u from.start (subst (λ (p : List ℕ → Fp). Kept p c.in-Ok.store.store (g.R.Rig.world c.open_store.new.rig) from.start from.start) (sym printed) kept.1) o may))
 
 pub returns-in-Ok-clause-serves : goal.returns-in-Ok-clause-serves
 returns-in-Ok-clause-serves g c = λ t u from.
     let script : List ℕ = g.S.Source.rest c.args.source.now in
-    let kept = c.in-Ok.ensures.kept t from.start from.stands in
-    let printed = ap g.F.Fingerprint.printed c.in-Ok.ensures.print in
+    let kept = (c.in-Ok.ensures.holds t).kept from.start from.stands in
+    let printed = ap g.F.Fingerprint.printed c.in-Ok.ensures.opened.1 in
     serves_since (g.F.Fingerprint.printed c.args.print) (sizes_of from.stands.geo) from.start script 1 c.end_store.result (g.R.Rig.world c.args.rig.now) (g.R.Rig.world c.open_store.new.rig) (g.R.Rig.world c.end_store.new.rig)
-    (g.R.Rig.counts c.args.rig.now) (g.R.Rig.counts c.open_store.new.rig) (g.R.Rig.counts c.end_store.new.rig) c.open_store.ensures.frame.0 c.end_store.ensures.frame.0 (opened_calls (up_to 4 1 0) (g.R.Rig.counts c.args.rig.now) (g.R.Rig.counts c.open_store.new.rig) c.open_store.ensures.calls) (c.open_store.ensures.said t)
+    (g.R.Rig.counts c.args.rig.now) (g.R.Rig.counts c.open_store.new.rig) (g.R.Rig.counts c.end_store.new.rig) c.open_store.ensures.fails.1.0 c.end_store.ensures.frame.0 (opened_calls (up_to 4 1 0) (g.R.Rig.counts c.args.rig.now) (g.R.Rig.counts c.open_store.new.rig) c.open_store.ensures.costs.calls) (c.open_store.ensures.leaves t).said
     (by_three (λ (p : List ℕ → Fp) (geo : Geometry) (said : List ℕ). Serves p (sizes_of geo) from.start script 0 c.end_store.result (g.R.Rig.world c.open_store.new.rig) (g.R.Rig.world c.end_store.new.rig) (g.R.Rig.counts c.open_store.new.rig) (g.R.Rig.counts c.end_store.new.rig))
-    printed kept.0 (c.open_store.ensures.said t)
+    printed kept.0 (c.open_store.ensures.leaves t).said
     (c.end_store.ensures.serves t u from.start (subst (λ (p : List ℕ → Fp). Kept p c.in-Ok.store.store (g.R.Rig.world c.open_store.new.rig) from.start from.start) (sym printed) kept.1)))
 
 pub returns-in-Ok-clause-taken : goal.returns-in-Ok-clause-taken
 returns-in-Ok-clause-taken g c = λ t u from few.
-    subst (λ (geo : Geometry). IsTakenTo (dialect_of (sizes_of geo)) (g.S.Source.rest c.args.source.now) (g.S.Source.rest c.end_store.new.source)) (c.in-Ok.ensures.kept t from.start from.stands).0 (c.end_store.ensures.taken u few)
+    subst (λ (geo : Geometry). IsTakenTo (dialect_of (sizes_of geo)) (g.S.Source.rest c.args.source.now) (g.S.Source.rest c.end_store.new.source)) ((c.in-Ok.ensures.holds t).kept from.start from.stands).0 (c.end_store.ensures.taken u few)
 
 pub returns-in-Ok-clause-quiet : goal.returns-in-Ok-clause-quiet
 returns-in-Ok-clause-quiet g c = λ t u from quiet still bounded.
-    let kept = c.in-Ok.ensures.kept t from.start from.stands in
-    let printed = ap g.F.Fingerprint.printed c.in-Ok.ensures.print in
+    let kept = (c.in-Ok.ensures.holds t).kept from.start from.stands in
+    let printed = ap g.F.Fingerprint.printed c.in-Ok.ensures.opened.1 in
     c.end_store.ensures.quiet t u from.start (subst (λ (p : List ℕ → Fp). Kept p c.in-Ok.store.store (g.R.Rig.world c.open_store.new.rig) from.start from.start) (sym printed) kept.1)
-    (quiet_behind (g.R.Rig.counts c.args.rig.now) (g.R.Rig.counts c.open_store.new.rig) (g.R.Rig.counts c.end_store.new.rig) c.open_store.ensures.frame.0 c.end_store.ensures.frame.0 quiet) still
+    (quiet_behind (g.R.Rig.counts c.args.rig.now) (g.R.Rig.counts c.open_store.new.rig) (g.R.Rig.counts c.end_store.new.rig) c.open_store.ensures.fails.1.0 c.end_store.ensures.frame.0 quiet) still
     (subst (λ (geo : Geometry). IsBounded (sizes_of geo) (g.S.Source.rest c.args.source.now)) (sym kept.0) bounded)
 
 pub returns-in-Ok-clause-caused : goal.returns-in-Ok-clause-caused
@@ -120,10 +120,10 @@ returns-in-Ok-clause-caused g c =
       h.0,
       h.1,
       caused_since (c.end_store.new.source ≡ c.args.source.now) ((x : Sizes) × (g.S.Source.tells → IsBounded x (g.S.Source.rest c.args.source.now) → ⊥)) (g.S.Source.tells → IsBounded sizes (g.S.Source.rest c.args.source.now) → ⊥) (λ long. (sizes, long))
-          h.0 (g.R.Rig.counts c.args.rig.now) (g.R.Rig.counts c.open_store.new.rig) (g.R.Rig.counts c.end_store.new.rig) (g.S.Source.failures c.args.source.now) (g.S.Source.failures c.end_store.new.source) c.open_store.ensures.frame.0 h.2,
+          h.0 (g.R.Rig.counts c.args.rig.now) (g.R.Rig.counts c.open_store.new.rig) (g.R.Rig.counts c.end_store.new.rig) (g.S.Source.failures c.args.source.now) (g.S.Source.failures c.end_store.new.source) c.open_store.ensures.fails.1.0 h.2,
       λ t.
           ending_later h.0 (g.R.Rig.counts c.args.rig.now) (g.R.Rig.counts c.open_store.new.rig) (g.R.Rig.counts c.end_store.new.rig) (g.R.Rig.world c.args.rig.now) (g.R.Rig.world c.open_store.new.rig) (g.R.Rig.world c.end_store.new.rig)
-          c.open_store.ensures.frame.0 (c.open_store.ensures.said t) (h.3 t),
+          c.open_store.ensures.fails.1.0 (c.open_store.ensures.leaves t).said (h.3 t),
     )
 
 pub returns-in-Ok-clause-unopened : goal.returns-in-Ok-clause-unopened
@@ -140,9 +140,9 @@ returns-in-Err-clause-caused g c =
       c.finish.ensures.status ∙ ap status_of c.ending_of-ending.ensures,
       caused_later opening long opening long (λ h. h) (λ h. h) (ending_of c.in-Err.fault) (g.R.Rig.counts c.args.rig.now) (g.R.Rig.counts c.open_store.new.rig) (g.R.Rig.counts c.finish.new.rig)
           (g.S.Source.failures c.args.source.now) (g.S.Source.failures c.args.source.now) c.finish.ensures.frame.0
-          (opening_cause opening long refl c.in-Err.fault (g.R.Rig.counts c.args.rig.now) (g.R.Rig.counts c.open_store.new.rig) (g.S.Source.failures c.args.source.now) (g.S.Source.failures c.args.source.now) c.in-Err.ensures.cause),
+          (opening_cause opening long refl c.in-Err.fault (g.R.Rig.counts c.args.rig.now) (g.R.Rig.counts c.open_store.new.rig) (g.S.Source.failures c.args.source.now) (g.S.Source.failures c.args.source.now) c.in-Err.ensures.fails.0),
       λ t.
-          ending_since (ending_of c.in-Err.fault) (g.R.Rig.counts c.args.rig.now) (g.R.Rig.counts c.open_store.new.rig) (g.R.Rig.counts c.finish.new.rig) old middle new c.open_store.ensures.frame.0 (more_same old middle (c.open_store.ensures.said t)) (λ first. c.open_store.ensures.said t)
+          ending_since (ending_of c.in-Err.fault) (g.R.Rig.counts c.args.rig.now) (g.R.Rig.counts c.open_store.new.rig) (g.R.Rig.counts c.finish.new.rig) old middle new c.open_store.ensures.fails.1.0 (more_same old middle (c.open_store.ensures.leaves t).said) (λ first. (c.open_store.ensures.leaves t).said)
           (subst (λ (e : Ending). SaysLast (ending_line e) (g.R.Rig.counts c.open_store.new.rig) (g.R.Rig.counts c.finish.new.rig) middle new) c.ending_of-ending.ensures (c.finish.ensures.said t)),
     )
 

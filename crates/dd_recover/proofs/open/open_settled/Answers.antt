@@ -18,13 +18,13 @@ use Rattle.dd_recover.proofs.open.open_settled.Goals as goal
 pub returns-in_err-found-clause-fault : goal.returns-in_err-found-clause-fault
 returns-in_err-found-clause-fault g c = λ told.
     body_told (g.R.Rig.device_size c.args.rig.now) (g.R.Rig.device_size c.read_geometry.new.rig) (g.R.Rig.world c.args.rig.now).flash.shown (g.R.Rig.world c.read_geometry.new.rig).flash.shown c.in_ok-geo.geo
-    c.read_geometry.ensures.frame.1 (ap (λ (w : World). w.flash.shown) (c.read_geometry.ensures.world told)) (c.in_ok-geo.ensures.fault told) (c.in_ok-geo.ensures.geometry told)
+    c.read_geometry.ensures.fails.1.1 (ap (λ (w : World). w.flash.shown) (c.read_geometry.ensures.world told)) (c.in_ok-geo.ensures.fault told) (c.in_ok-geo.ensures.geometry told)
     _ c.from_residual-in_err-found.result c.in_err-found.field-0.0 c.from_residual-in_err-found.ensures.1 (c.in_err-found.ensures.fault told)
 
 pub returns-clause-fault : goal.returns-clause-fault
 returns-clause-fault g c = λ told.
     found_told (g.R.Rig.device_size c.args.rig.now) (g.R.Rig.device_size c.read_geometry.new.rig) (g.R.Rig.world c.args.rig.now).flash.shown (g.R.Rig.world c.read_geometry.new.rig).flash.shown c.in_ok-geo.geo
-    c.read_geometry.ensures.frame.1 (ap (λ (w : World). w.flash.shown) (c.read_geometry.ensures.world told)) (c.in_ok-geo.ensures.fault told) (c.in_ok-geo.ensures.geometry told)
+    c.read_geometry.ensures.fails.1.1 (ap (λ (w : World). w.flash.shown) (c.read_geometry.ensures.world told)) (c.in_ok-geo.ensures.fault told) (c.in_ok-geo.ensures.geometry told)
     c.open_found.result c.in_ok-found.found (c.in_ok-found.ensures.fault told) (c.in_ok-found.ensures.reads told) c.open_found.ensures.fault
 
 pub returns-clause-kept : goal.returns-clause-kept
@@ -38,7 +38,7 @@ returns-clause-kept g c = λ told.
     let read_is : read ≡ old = c.read_geometry.ensures.world told in
     let now_is : now ≡ read = c.find_sized.ensures.world told in
     let same : now ≡ old = now_is ∙ read_is in
-    let large : disk_need geo ≤ g.R.Rig.device_size c.find_sized.new.rig Disk = subst (λ (n : Dev → ℕ). disk_need geo ≤ n Disk) (sym c.find_sized.ensures.frame.1) c.in_ok-found.ensures.room.1 in
+    let large : disk_need geo ≤ g.R.Rig.device_size c.find_sized.new.rig Disk = subst (λ (n : Dev → ℕ). disk_need geo ≤ n Disk) (sym c.find_sized.ensures.fails.1.1) c.in_ok-found.ensures.room.1 in
     ok_both c.open_found.result (λ opened. opened.store.journal.geo ≡ geo)
     (λ opened. (s : State) → IsStable now.flash → IsStable now.disk → disk_need geo ≤ g.R.Rig.device_size c.find_sized.new.rig Disk → FoundMeans print geo found now s → Kept print opened.store now s s)
     (λ opened. (s : State) (stands : Stands print old.flash.shown old.disk.shown s) → IsStable old.flash → IsStable old.disk → (opened.store.journal.geo ≡ stands.geo) × Kept print opened.store now s s)
