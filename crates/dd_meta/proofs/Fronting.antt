@@ -1,19 +1,20 @@
 -- What bringing an address to the front makes of a metadata cache, listed before or new.
 use Rattle.std.proofs.Common.{◌≡◌, inl, inr, ℕ, ◌+◌, ◌==◌, not, Bool, true, false, List, [], ◌∷◌, length, map, refl, sym, ◌∙◌, ap, subst, arith, Option, Some, None, cond, is_some, count_by}
-use Rattle.std.specs.Prelude.{◌&&◌, ◌||◌, filter, find, option_map, unwrap_or}
+use Rattle.std.specs.Prelude.{◌&&◌, ◌||◌, filter, find, option_map, option_and_then, unwrap_or, IfSome}
 use Rattle.std.specs.List.{IsDistinct}
 use Rattle.std.proofs.lemmas.Bool.{eq-eqb, ne_eqb, cases_eq, both_ways}
 use Rattle.std.proofs.lemmas.List.{length-map}
 use Rattle.dd_record.specs.declared.row.ARow.{ARow}
-use Rattle.dd_record.specs.Table.{is_link}
+use Rattle.dd_record.specs.Table.{is_link, a_row}
 use Rattle.dd_lists.specs.Lists.{is_in, list_at, without, fronted, moved_front}
 use Rattle.dd_lists.specs.Nodes.{Nodes, value_at, is_live}
 use Rattle.dd_lists.proofs.Members.{in_here, in_without_other, at_moved}
 use Rattle.dd_index.specs.Index.{Index}
-use Rattle.dd_meta.specs.Entries.{Entry, Meta, Brings, Writes, Fronts, blank, rows_of, node_of, row_of, written, dirty_by, owed_by}
+use Rattle.dd_meta.specs.Entries.{Entry, Meta, Brings, Writes, Fronts, Renews, blank, rows_of, node_of, row_of, written, dirty_by, owed_by}
 use Rattle.dd_meta.specs.Matching.{row_at, address_of, entry_of, listed, shown, IsBelow, home_of, is_home, with_row, Matches}
 use Rattle.dd_meta.proofs.Numbers.{map_in_same, map_map, head_out, fewer, filter_map}
 use Rattle.dd_meta.proofs.Homes.{put_once}
+use Rattle.dd_meta.proofs.Rows.{found_row, row_got}
 use Rattle.dd_meta.proofs.Marking.{named_live, named_is}
 use Rattle.dd_meta.proofs.Writing.{written_matches, written_shown}
 use Rattle.dd_meta.proofs.Waiting.{tells}
@@ -29,6 +30,16 @@ fronted_in n m xs here =
 some_is : (o : Option ARow) → is_some o ≡ true → o ≡ Some (unwrap_or o blank)
 some_is None h = absurd (both_ways false refl h)
 some_is (Some row) h = refl
+
+-- rows of entries that pass a test on them
+map_filter : (p : ARow → Bool) (es : List Entry) → map (λ (e : Entry). e.row) (filter (λ (e : Entry). not (p e.row)) es) ≡ filter (λ row. not (p row)) (map (λ (e : Entry). e.row) es)
+map_filter p [] = refl
+map_filter p (e ∷ es) = step (p e.row) (map_filter p es)
+  where
+    step : (b : Bool) → map (λ (x : Entry). x.row) (filter (λ (x : Entry). not (p x.row)) es) ≡ filter (λ row. not (p row)) (map (λ (x : Entry). x.row) es)
+        → map (λ (x : Entry). x.row) (cond (not b) (e ∷ filter (λ (x : Entry). not (p x.row)) es) (filter (λ (x : Entry). not (p x.row)) es)) ≡ cond (not b) (e.row ∷ filter (λ row. not (p row)) (map (λ (x : Entry). x.row) es)) (filter (λ row. not (p row)) (map (λ (x : Entry). x.row) es))
+    step true later = later
+    step false later = ap (λ (l : List ARow). e.row ∷ l) later
 
 -- a listed node
 module _ {acap slots : ℕ} {nodes : Nodes ARow} {index : Index} (k : Matches acap slots nodes index) (node : ℕ) (here : is_in node (listed nodes) ≡ true) where
@@ -98,15 +109,38 @@ module _ {acap slots : ℕ} {nodes : Nodes ARow} {index : Index} (k : Matches ac
       apart : (m : ℕ) → is_in m (listed nodes) ≡ true → (address_of nodes m == address) ≡ (node == m)
       apart m h = turn (address_of nodes m) address ∙ ap (λ a. a == address_of nodes m) (sym is) ∙ tells k node live (row_at nodes node) value m h
 
--- rows of entries that pass a test on them
-map_filter : (p : ARow → Bool) (es : List Entry) → map (λ (e : Entry). e.row) (filter (λ (e : Entry). not (p e.row)) es) ≡ filter (λ row. not (p row)) (map (λ (e : Entry). e.row) es)
-map_filter p [] = refl
-map_filter p (e ∷ es) = step (p e.row) (map_filter p es)
-  where
-    step : (b : Bool) → map (λ (x : Entry). x.row) (filter (λ (x : Entry). not (p x.row)) es) ≡ filter (λ row. not (p row)) (map (λ (x : Entry). x.row) es)
-        → map (λ (x : Entry). x.row) (cond (not b) (e ∷ filter (λ (x : Entry). not (p x.row)) es) (filter (λ (x : Entry). not (p x.row)) es)) ≡ cond (not b) (e.row ∷ filter (λ row. not (p row)) (map (λ (x : Entry). x.row) es)) (filter (λ row. not (p row)) (map (λ (x : Entry). x.row) es))
-    step true later = later
-    step false later = ap (λ (l : List ARow). e.row ∷ l) later
+  -- its row is the one that it had
+  pub moved_renews : (address : ℕ) → address_of nodes node ≡ address → node_of address (shown acap slots nodes) ≡ Some node
+      → IfSome (a_row address (rows_of (shown acap slots nodes))) (Renews (shown acap slots nodes) (shown acap slots moved))
+  unfolding moved_shown
+  moved_renews address is named = subst (λ (o : Option ARow). IfSome o (Renews (shown acap slots nodes) (shown acap slots moved))) (sym has) renews
+    where
+      row : ARow
+      row = row_at nodes node
+
+      brings : Brings (shown acap slots nodes) (shown acap slots moved) address node
+      brings = moved_shown address is named
+
+      has : a_row address (rows_of (shown acap slots nodes)) ≡ Some row
+      has =
+          sym (found_row k address) ∙ ap (option_and_then (λ n. row_of n (shown acap slots nodes))) named
+          ∙ row_got k node row (k.live node ∙ here) (some_is (value_at node nodes) (k.live node ∙ here))
+
+      entries : (shown acap slots moved).entries ≡ record { node = node; row = row } ∷ filter (λ (e : Entry). not (e.row.address == row.address)) (shown acap slots nodes).entries
+      entries = brings.entries ∙ ap (λ a. record { node = node; row = row } ∷ filter (λ (e : Entry). not (e.row.address == a)) (shown acap slots nodes).entries) (sym is)
+
+      renews : Renews (shown acap slots nodes) (shown acap slots moved) row
+      renews =
+          record {
+            node = node;
+            known = ap (λ a. node_of a (shown acap slots nodes)) is ∙ named;
+            entries = entries;
+            rows = ap (map (λ (e : Entry). e.row)) entries ∙ ap (λ (l : List ARow). row ∷ l) (map_filter (λ (other : ARow). other.address == row.address) (shown acap slots nodes).entries);
+            dirty = refl;
+            owed = refl;
+            acap = refl;
+            slots = refl;
+          }
 
 -- the row of an address that was brought in front
 pub brought_row : (old new : Meta) (address node : ℕ) (b : Brings old new address node) → row_of node new ≡ Some b.row

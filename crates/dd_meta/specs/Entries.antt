@@ -83,6 +83,17 @@ pub record Fronts (old new : Meta) (row : ARow) : Type 0 where
   pub acap : new.acap ≡ old.acap
   pub slots : new.slots ≡ old.slots
 
+-- the row that its address has in front of the others, at its node
+pub record Renews (old new : Meta) (row : ARow) : Type 0 where
+  pub node : ℕ
+  pub known : node_of row.address old ≡ Some node
+  pub entries : new.entries ≡ record { node = node; row = row } ∷ filter (λ entry. not (entry.row.address == row.address)) old.entries
+  pub rows : rows_of new ≡ row ∷ filter (λ other. not (other.address == row.address)) (rows_of old)
+  pub dirty : new.dirty ≡ old.dirty
+  pub owed : new.owed ≡ old.owed
+  pub acap : new.acap ≡ old.acap
+  pub slots : new.slots ≡ old.slots
+
 -- an entry with this row, if it is of that node
 abbrev pub written : ℕ → ARow → Entry → Entry
 written node row entry = if entry.node == node then record { node = entry.node; row = row } else entry

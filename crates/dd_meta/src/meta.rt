@@ -6,7 +6,7 @@ ghost use Rattle.dd_record.specs.Replay.{cleaned};
 ghost use Rattle.dd_meta.specs.Matching.{IsBelow};
 ghost use Rattle.dd_meta.specs.Keeping.{IsMeta};
 ghost use Rattle.dd_meta.specs.Walks.{but};
-ghost use Rattle.dd_meta.specs.Entries.{rows_of, node_of, row_of, row_named, owed_to, is_listed_address, last_address, Brings, Fronts, Writes, unlinked, unlinked_row};
+ghost use Rattle.dd_meta.specs.Entries.{rows_of, node_of, row_of, row_named, owed_to, is_listed_address, last_address, Brings, Fronts, Renews, Writes, unlinked, unlinked_row};
 
 mod filling;
 mod steps;
@@ -179,6 +179,18 @@ impl MetaCache {
             fp,
         };
         write(&mut self.nodes, self.slots, node, row);
+    }
+
+    /// Moves a listed address to the front. Its row stays.
+    pub fn renew(&mut self, address: u32)
+        requires { is_listed_address address self.old ≡ true }
+        ensures after { IfSome (a_row address (rows_of self.old)) (Renews self.old self.new) }
+        ensures keeps { IsMeta self.new }
+    {
+        match self.index.first(u64::from(address)) {
+            Some(node) => self.nodes.move_front(Lane::Recency, node),
+            None => unreachable!(),
+        }
     }
 
     // The node of an address that is in front now. One that was not listed has this fingerprint, and no link.

@@ -98,6 +98,18 @@ fn a_dirty_address_that_is_written_again_keeps_its_place(rt: HostRuntime) -> Res
 }
 
 #[test]
+fn a_renewed_address_keeps_its_row(rt: HostRuntime) -> Result<(), Fail> {
+    let mut cache = MetaCache::new(rt.alloc(), 4, 4)?;
+    cache.front(5, Link::Slot(3), false, FP);
+    cache.front(8, Link::Slot(3), false, FP);
+    cache.renew(5);
+    assert_eq!(rt; cache.walk(None), Some(OLDEST));
+    assert_eq!(rt; cache.walk(Some(5)), Some(NEWEST));
+    assert_eq!(rt; cache.walk(Some(8)), None);
+    Ok(())
+}
+
+#[test]
 fn a_slot_is_owed_by_its_dirty_addresses_alone(rt: HostRuntime) -> Result<(), Fail> {
     let mut cache = MetaCache::new(rt.alloc(), 4, 4)?;
     put(&mut cache, 5, Link::Slot(0), true);

@@ -1,5 +1,6 @@
 mod Coupled
 mod Marking
+mod Renewed
 mod Roomy
 mod Steps
 mod Taken

@@ -1,10 +1,12 @@
 -- The metadata cache and the data cache, coupled: what both list, and what holds of them.
-use Rattle.std.specs.Prelude.{◌≡◌, ℕ, ◌-◌, ◌==◌, List, [], length, take, Option, Some, None, option_map, if◌then◌else◌, is_some}
+use Rattle.std.specs.Prelude.{◌≡◌, ℕ, ◌-◌, ◌==◌, not, ◌&&◌, ◌||◌, Bool, false, List, [], length, take, Option, Some, None, option_map, if◌then◌else◌, is_some}
 use Rattle.dd_slots.specs.Numbers.{Enumerates}
 use Rattle.dd_record.specs.declared.row.ARow.{ARow}
-use Rattle.dd_record.specs.Table.{a_row}
+use Rattle.dd_record.specs.Table.{a_row, is_slot}
 use Rattle.dd_meta.specs.Entries.{Meta, rows_of, owed_to}
 use Rattle.dd_data.specs.Blocks.{Data}
+use Rattle.dd_model.specs.declared.given.Block.{Block}
+use Rattle.dd_model.specs.declared.given.Block.TheVariants.{Known, Fresh, Zero}
 use Rattle.dd_model.specs.Listing.{Listing, IsListing, listing_of, last_of_full, is_referrer}
 
 -- both lists, how long they may be, and the dirty addresses by age
@@ -29,6 +31,17 @@ roomy_for address acap rows = if is_some (a_row address rows) then rows else roo
 
 abbrev pub out_for : (address acap : ℕ) → List ARow → Option ℕ
 out_for address acap rows = if is_some (a_row address rows) then None else option_map (λ row. row.address) (last_of_full acap rows)
+
+-- whether a reference to the block in a slot leaves a row as it is: it is linked to the slot, and is dirty where it becomes so
+abbrev pub is_renewed : (slot : ℕ) (dirty : Bool) → Option ARow → Bool
+is_renewed slot dirty None = false
+is_renewed slot dirty (Some row) = is_slot slot row.link && (not dirty || row.dirty)
+
+-- the slot of the block that is referenced, where the row stays as it is
+abbrev pub renewed_slot : Block → (dirty : Bool) → Option ARow → Option ℕ
+renewed_slot (Known slot) dirty row = if is_renewed slot dirty row then Some slot else None
+renewed_slot (Fresh block) dirty row = None
+renewed_slot Zero dirty row = None
 
 -- the rows that are listed behind a search for one that doesn't fit: all, where there is none
 abbrev pub taken : {Row : Type 0} → Option ℕ → List Row → List Row

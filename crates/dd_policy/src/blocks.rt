@@ -37,7 +37,7 @@ pub(crate) fn bring_block(blocks: &mut DataCache, block: Block) -> Option<BRow>
 }
 
 // A listed block to the front. None falls off.
-fn bring_known(blocks: &mut DataCache, slot: u32)
+pub(crate) fn bring_known(blocks: &mut DataCache, slot: u32)
     requires { IsTrue (is_some (b_row slot blocks.old.rows)) }
     ensures after { blocks.new ≡ record blocks.old { rows = b_after blocks.old.bcap (b_row slot blocks.old.rows) blocks.old.rows } }
     ensures drop { cut_block blocks.old.bcap (b_row slot blocks.old.rows) blocks.old.rows ≡ None }

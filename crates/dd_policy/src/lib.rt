@@ -8,6 +8,7 @@ mod blocks;
 mod counting;
 mod policy;
 mod references;
+mod renewing;
 mod restoring;
 mod searching;
 #[cfg(test)]

@@ -9,6 +9,7 @@ ghost use Rattle.dd_model.specs.Listing.{IsListing, IsGiven, touch_by, may_refer
 ghost use Rattle.dd_policy.specs.Coupling.{listing_in, roomy_for, out_for};
 
 use crate::blocks::{bring_block, row_of};
+use crate::renewing::{renew_both, renewed_slot};
 use dd_data::DataCache;
 use dd_meta::MetaCache;
 use dd_model::{Block, Cut, link_to, print_beside};
@@ -17,6 +18,29 @@ use dd_record::BRow;
 // The block and the address to the front. What finds no room falls off, and the links to the block that
 // does are gone.
 pub(crate) fn touch_both(
+    meta: &mut MetaCache,
+    blocks: &mut DataCache,
+    address: u32,
+    block: Block,
+    dirty: bool,
+) -> Cut
+    requires kept { IsListing (listing_in meta.old blocks.old) }
+    requires same { meta.old.slots ≡ blocks.old.slots }
+    requires block { IsGiven (listing_in meta.old blocks.old) block }
+    requires clean { IsTrue (may_refer (touch_by address block dirty (listing_in meta.old blocks.old)) (listing_in meta.old blocks.old)) }
+    ensures after { listing_in meta.new blocks.new ≡ referred (touch_by address block dirty (listing_in meta.old blocks.old)) (listing_in meta.old blocks.old) }
+    ensures cut { result ≡ cut_of (touch_by address block dirty (listing_in meta.old blocks.old)) (listing_in meta.old blocks.old) }
+    ensures slots { meta.new.slots ≡ meta.old.slots }
+    ensures keeps { IsMeta meta.new }
+{
+    match renewed_slot(meta, address, block, dirty) {
+        Some(slot) => renew_both(meta, blocks, address, slot),
+        None => refer_both(meta, blocks, address, block, dirty),
+    }
+}
+
+// The same, whatever the address was linked to.
+fn refer_both(
     meta: &mut MetaCache,
     blocks: &mut DataCache,
     address: u32,

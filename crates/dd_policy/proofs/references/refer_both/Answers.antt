@@ -12,7 +12,7 @@ use Rattle.dd_model.proofs.Answering.{and_second}
 use Rattle.dd_policy.specs.Coupling.{listing_in}
 use Rattle.dd_policy.proofs.Marking.{clean_cut}
 use Rattle.dd_policy.proofs.Touched.{given_below, drop_below}
-use Rattle.dd_policy.proofs.references.touch_both.Goals as goal
+use Rattle.dd_policy.proofs.references.refer_both.Goals as goal
 
 pub refer-out-requires-clause-below : goal.refer-out-requires-clause-below
 refer-out-requires-clause-below c =
