@@ -1,7 +1,7 @@
 // A reference to the block that an address is linked to already.
 ghost use Rattle.std.specs.Prelude.{◌≡◌, false};
 ghost use Rattle.dd_record.specs.declared.row.Link.TheVariants as links;
-ghost use Rattle.dd_record.specs.Table.{a_row, link_at, is_slot};
+ghost use Rattle.dd_record.specs.Table.{a_row, link_at};
 ghost use Rattle.dd_meta.specs.Entries.{rows_of};
 ghost use Rattle.dd_meta.specs.Keeping.{IsMeta};
 ghost use Rattle.dd_model.specs.declared.given.Block.TheVariants.{Known};
@@ -35,17 +35,11 @@ fn is_renewed(meta: &MetaCache, address: u32, slot: u32, dirty: bool) -> bool
     ensures { result ≡ is_renewed slot dirty (a_row address (rows_of meta.now)) }
 {
     match meta.look(address) {
-        Some(row) => is_slot(row.link, slot) && (!dirty || row.dirty),
+        Some(row) => match row.link {
+            Link::Slot(other) => other == slot && (!dirty || row.dirty),
+            Link::Lost | Link::Zero => false,
+        },
         None => false,
-    }
-}
-
-fn is_slot(link: Link, slot: u32) -> bool
-    ensures { result ≡ is_slot slot link }
-{
-    match link {
-        Link::Slot(other) => other == slot,
-        Link::Lost | Link::Zero => false,
     }
 }
 
