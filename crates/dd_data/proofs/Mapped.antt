@@ -1,6 +1,6 @@
 -- Lists of nodes, and the rows that a function makes of them.
 use Rattle.std.proofs.Common.{◌≡◌, ◌≢◌, inl, inr, ℕ, suc, ◌-◌, ◌==◌, not, Bool, true, false, List, [], ◌∷◌, length, map, take, refl, sym, ◌∙◌, ap, arith, Option, Some, None, cond, slice_get, get_or}
-use Rattle.std.specs.Prelude.{find, filter, option_map}
+use Rattle.std.specs.Prelude.{filter, option_map}
 use Rattle.std.specs.List.{AllByRecursion, IsDistinct}
 use Rattle.std.proofs.lemmas.Bool.{eqb-true, eqb-false, eq-eqb, ne_eqb, both_ways}
 use Rattle.std.proofs.lemmas.Option.{slice_get-get_or}
@@ -8,52 +8,6 @@ use Rattle.dd_record.specs.Listed.{row_behind}
 use Rattle.dd_lists.specs.Lists.{is_in, without, behind}
 use Rattle.dd_lists.proofs.Members.{in_cons, in_here, in_later, without_none, none_from}
 use Rattle.dd_lists.proofs.Found.{got_in_list}
-
--- no number is meant
-pub none_since : (o : Option ℕ) → ((n : ℕ) → o ≡ Some n → ⊥) → o ≡ None
-none_since None h = refl
-none_since (Some n) h = absurd (h n refl)
-
--- searches
-pub find_map : {X : Type 0} (p : X → Bool) (f : ℕ → X) (xs : List ℕ) → find p (map f xs) ≡ option_map f (find (λ n. p (f n)) xs)
-find_map p f [] = refl
-find_map p f (x ∷ xs) = step (p (f x)) (find_map p f xs)
-  where
-    step : (b : Bool) → find p (map f xs) ≡ option_map f (find (λ n. p (f n)) xs) → cond b (Some (f x)) (find p (map f xs)) ≡ option_map f (cond b (Some x) (find (λ n. p (f n)) xs))
-    step true later = refl
-    step false later = later
-
-find_in : (p : ℕ → Bool) (xs : List ℕ) (n : ℕ) → find p xs ≡ Some n → (is_in n xs ≡ true) × (p n ≡ true)
-find_in p [] n h = absurd (cc)
-find_in p (x ∷ xs) n h = step (p x) refl (find_in p xs n) h
-  where
-    step : (b : Bool) → p x ≡ b → (find p xs ≡ Some n → (is_in n xs ≡ true) × (p n ≡ true)) → cond b (Some x) (find p xs) ≡ Some n → (is_in n (x ∷ xs) ≡ true) × (p n ≡ true)
-    step true passes later e = let same : x ≡ n = cc in (ap (λ i. is_in i (x ∷ xs)) (sym same) ∙ in_here x xs, ap p (sym same) ∙ passes)
-    step false passes later e = let found = later e in (in_later n x xs found.0, found.1)
-
-find_out : (p : ℕ → Bool) (xs : List ℕ) (n : ℕ) → find p xs ≡ None → is_in n xs ≡ true → p n ≡ true → ⊥
-find_out p [] n h there passes = both_ways false refl there
-find_out p (x ∷ xs) n h there passes = step (λ e later. find_out p xs n e later passes) (p x) refl h
-  where
-    step : (find p xs ≡ None → is_in n xs ≡ true → ⊥) → (b : Bool) → p x ≡ b → cond b (Some x) (find p xs) ≡ None → ⊥
-    step later true e h = cc
-    step later false e h =
-        elim (in_cons n x xs there) [
-          | inl same ↦ both_ways _ e (ap p (sym same) ∙ passes)
-          | inr rest ↦ later h rest
-        ]
-
--- the only number that passes is found
-pub find_only : (p : ℕ → Bool) (xs : List ℕ) (o : Option ℕ) → ((n : ℕ) → o ≡ Some n → (is_in n xs ≡ true) × (p n ≡ true)) → ((m : ℕ) → is_in m xs ≡ true → p m ≡ true → o ≡ Some m) → o ≡ find p xs
-find_only p xs o has only = by_find (find p xs) refl
-  where
-    by_find : (f : Option ℕ) → find p xs ≡ f → o ≡ f
-    by_find (Some m) e = let found = find_in p xs m e in only m found.0 found.1
-    by_find None e = none_since o (λ n is. find_out p xs n e (has n is).0 (has n is).1)
-
-pub map_none : {X : Type 0} (f : ℕ → X) (o : Option ℕ) → option_map f o ≡ None → o ≡ None
-map_none f None h = refl
-map_none f (Some n) h = absurd (cc)
 
 -- a list whose last number isn't there has none
 pub no_last : (xs : List ℕ) → slice_get xs (length xs - 1) ≡ None → length xs ≡ 0

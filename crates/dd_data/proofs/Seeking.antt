@@ -1,5 +1,5 @@
 -- Looking along a list of nodes for one that passes a test.
-use Rattle.std.proofs.Common.{◌≡◌, ℕ, suc, ◌<◌, ◌==◌, Bool, true, false, List, ◌∷◌, length, refl, sym, ◌∙◌, ap, subst, arith, Option, Some, None, cond, slice_get}
+use Rattle.std.proofs.Common.{◌≡◌, ℕ, suc, ◌<◌, ◌==◌, Bool, true, false, List, ◌∷◌, length, sym, ◌∙◌, ap, subst, arith, Option, Some, cond, slice_get}
 use Rattle.std.specs.Prelude.{filter}
 use Rattle.std.specs.List.{IsDistinct}
 use Rattle.dd_lists.specs.Lists.{is_in, behind}
@@ -12,15 +12,9 @@ pub record IsSought (passes : ℕ → Bool) (chain : List ℕ) (from at : Option
   pub head : at ≡ slice_get (from_on at chain) 0
   pub rest : slice_get (filter passes (from_on at chain)) 0 ≡ slice_get (filter passes (from_on from chain)) 0
 
-pub sought_start : (passes : ℕ → Bool) (chain : List ℕ) (from : Option ℕ) → from ≡ slice_get (from_on from chain) 0 → IsSought passes chain from from
-sought_start passes chain from h = record { head = h; rest = refl }
-
 module _ {passes : ℕ → Bool} {chain : List ℕ} {from at : Option ℕ} (s : IsSought passes chain from at) where
   pub sought_in : (node : ℕ) → at ≡ Some node → is_in node chain ≡ true
   sought_in node is = on_in at node chain (sym s.head ∙ is)
-
-  pub sought_end : at ≡ None → None ≡ slice_get (filter passes (from_on from chain)) 0
-  sought_end is = sym (sym s.rest ∙ ap (λ o. slice_get (filter passes (from_on o chain)) 0) is)
 
   module _ (d : IsDistinct (λ x y. x == y) chain) (node : ℕ) (is : at ≡ Some node) where
     on_is : from_on at chain ≡ node ∷ from_on (behind node chain) chain

@@ -1,33 +1,35 @@
 // The listed blocks, in a linked list, found by their slot and by their fingerprint.
-ghost use Rattle.std.specs.Prelude.{◌≡◌, ◌-◌, ◌<◌, ◌≤◌, ◌==◌, [], ◌∷◌, Some, None, IsTrue, is_some, take, length, if◌then◌else◌, slice_get, IfOk};
+ghost use Rattle.std.specs.Prelude.{◌≡◌, ◌-◌, ◌<◌, ◌≤◌, ◌==◌, [], ◌∷◌, Some, None, IsTrue, is_some, take, length, if◌then◌else◌, IfOk};
 ghost use Rattle.dd_record.specs.Table.{b_row};
 ghost use Rattle.dd_record.specs.Listed.{b_walk};
 ghost use Rattle.dd_data.specs.Blocks.{alike, fronted_row, last_row, IsData};
 
-use crate::walks::{is_like, key_of, place, row_of, seek};
+use crate::walks::{is_listed_as, key_of, print_at, row_at, row_of, seek};
 use dd_block::Fp;
 use dd_index::Index;
-use dd_lists::{Lane, Nodes};
+use dd_lists::Lists;
 use dd_record::BRow;
 use std::alloc::{AllocError, Global};
 use std::marker::Model;
 
-/// The one list of the recency lane.
+/// The one list of slots.
 const ALL: u32 = 0;
 
 /// The rows of the listed blocks, the most recently referenced first, seen as that list, how long it
 /// may be, and how many slots there are.
 ///
-/// Each call but `new` takes a fixed number of steps and no memory, but for `candidate`: it goes
-/// along the blocks with one key, a fixed number, expected.
+/// A block's number in the list and in the index is its slot. Each call but `new` takes a fixed number of
+/// steps and no memory, but for `candidate`: it goes along the blocks with one key, a fixed number, expected.
 #[derive(Drop)]
 pub struct DataCache {
     bcap: u32,
-    nodes: Nodes<BRow>,
-    // The nodes under the keys of their fingerprints.
+    // How many blocks are listed.
+    count: u32,
+    recency: Lists,
+    // The slots under the keys of their fingerprints.
     index: Index,
-    // The node of each slot whose block is listed.
-    places: Vec<Option<u32>>,
+    // The fingerprint of each slot whose block is listed.
+    prints: Vec<Option<Fp>>,
 }
 
 impl Model for DataCache {
@@ -37,9 +39,9 @@ impl Model for DataCache {
 
     ghost use Rattle.dd_data.specs.Matching.{shown, Matches};
 
-    ghost view = { λ d. shown d.bcap d.nodes d.places.items };
+    ghost view = { λ d. shown d.bcap d.recency d.prints.items };
 
-    ghost invariant = { λ d. Matches d.bcap d.nodes d.index d.places.items };
+    ghost invariant = { λ d. Matches d.bcap d.count d.recency d.index d.prints.items };
 }
 
 impl DataCache {
@@ -50,9 +52,10 @@ impl DataCache {
     {
         Ok(DataCache {
             bcap,
-            nodes: Nodes::reserve(alloc, bcap, [1, 0, 0])?,
-            index: Index::new(alloc, bcap, bcap)?,
-            places: vec![in alloc; None; slots as usize]?,
+            count: 0,
+            recency: Lists::new(alloc, slots, 1)?,
+            index: Index::new(alloc, bcap, slots)?,
+            prints: vec![in alloc; None; slots as usize]?,
         })
     }
 
@@ -61,28 +64,31 @@ impl DataCache {
         ensures count { result ≡ length self.now.rows }
         ensures kept { IsData self.now }
     {
-        self.nodes.len()
+        self.count
     }
 
     /// The row of a slot; None exactly where its block isn't listed.
     pub fn find(&self, slot: u32) -> Option<BRow>
         ensures { result ≡ b_row slot self.now.rows }
     {
-        row_of(&self.nodes, place(&self.places, slot))
+        match print_at(&self.prints, slot) {
+            Some(fp) => Some(BRow { slot, fp }),
+            None => None,
+        }
     }
 
     /// The last row; None exactly where no block is listed.
     pub fn last(&self) -> Option<BRow>
         ensures { result ≡ last_row self.now.rows }
     {
-        row_of(&self.nodes, self.nodes.back(Lane::Recency, ALL))
+        row_of(&self.prints, self.recency.back(ALL))
     }
 
     /// The row that falls off where a block comes that isn't listed: the last one, where the list is full.
     pub fn victim(&self) -> Option<BRow>
         ensures { result ≡ (if length self.now.rows == self.now.bcap then last_row self.now.rows else None) }
     {
-        if self.nodes.len() == self.bcap {
+        if self.count == self.bcap {
             self.last()
         } else {
             None
@@ -95,9 +101,9 @@ impl DataCache {
         ensures { result ≡ b_walk after self.now.rows }
     {
         match after {
-            None => row_of(&self.nodes, self.nodes.front(Lane::Recency, ALL)),
-            Some(slot) => match place(&self.places, slot) {
-                Some(node) => row_of(&self.nodes, self.nodes.next(Lane::Recency, node)),
+            None => row_of(&self.prints, self.recency.front(ALL)),
+            Some(slot) => match print_at(&self.prints, slot) {
+                Some(_) => row_of(&self.prints, self.recency.next(slot)),
                 None => None,
             },
         }
@@ -109,17 +115,14 @@ impl DataCache {
         ensures { result ≡ b_walk after (alike fp self.now.rows) }
     {
         match after {
-            None => seek(&self.nodes, &self.index, self.index.first(key_of(fp)), fp),
-            Some(slot) => match place(&self.places, slot) {
-                Some(node) => {
-                    if is_like(*self.nodes.get(node), fp) {
-                        seek(&self.nodes, &self.index, self.index.next_same(node), fp)
-                    } else {
-                        None
-                    }
+            None => seek(&self.prints, &self.index, self.index.first(key_of(fp)), fp),
+            Some(slot) => {
+                if is_listed_as(&self.prints, slot, fp) {
+                    seek(&self.prints, &self.index, self.index.next_same(slot), fp)
+                } else {
+                    None
                 }
-                None => None,
-            },
+            }
         }
     }
 
@@ -128,10 +131,8 @@ impl DataCache {
         requires { IsTrue (is_some (b_row slot self.old.rows)) }
         ensures { self.new ≡ record self.old { rows = fronted_row slot self.old.rows } }
     {
-        if let Some(node) = place(&self.places, slot) {
-            self.nodes.move_front(Lane::Recency, node);
-            self.index.move_front(node);
-        }
+        self.recency.move_front(slot);
+        self.index.move_front(slot);
     }
 
     /// Puts the row of a block that isn't listed in front.
@@ -141,10 +142,10 @@ impl DataCache {
         requires fresh { b_row row.slot self.old.rows ≡ None }
         ensures { self.new ≡ record self.old { rows = row ∷ self.old.rows } }
     {
-        let node = self.nodes.add(row);
-        self.nodes.push_front(Lane::Recency, ALL, node);
-        self.index.insert(key_of(row.fp), node);
-        self.places[row.slot as usize] = Some(node);
+        self.recency.push_front(ALL, row.slot);
+        self.index.insert(key_of(row.fp), row.slot);
+        self.prints[row.slot as usize] = Some(row.fp);
+        self.count += 1;
     }
 
     /// Takes the last row away.
@@ -153,12 +154,13 @@ impl DataCache {
         ensures row { last_row self.old.rows ≡ Some result }
         ensures after { self.new ≡ record self.old { rows = take (length self.old.rows - 1) self.old.rows } }
     {
-        match self.nodes.back(Lane::Recency, ALL) {
-            Some(node) => {
-                self.index.remove(node);
-                self.nodes.unlink(Lane::Recency, node);
-                let row = self.nodes.remove(node);
-                self.places[row.slot as usize] = None;
+        match self.recency.back(ALL) {
+            Some(slot) => {
+                self.index.remove(slot);
+                self.recency.unlink(slot);
+                self.count -= 1;
+                let row = row_at(&self.prints, slot);
+                self.prints[slot as usize] = None;
                 row
             }
             None => unreachable!(),

@@ -1,16 +1,14 @@
-// Rows of nodes, and walks along the nodes of one fingerprint.
-ghost use Rattle.std.specs.Prelude.{◌≡◌, ℕ, ◌==◌, true, filter, option_map, slice_get, IfSome};
+// Rows of slots, and walks along the slots of one fingerprint.
+ghost use Rattle.std.specs.Prelude.{◌≡◌, ℕ, ◌==◌, ◌&&◌, true, filter, option_map, slice_get, IfSome};
 ghost use Rattle.std.specs.Str.{bytes_eq};
 ghost use Rattle.std.specs.List.{IsDistinct};
 ghost use Rattle.dd_lists.specs.Lists.{is_in};
-ghost use Rattle.dd_lists.specs.Nodes.{is_live};
 ghost use Rattle.dd_index.specs.Index.{nodes_of};
 ghost use Rattle.dd_index.specs.Chains.{from_on};
-ghost use Rattle.dd_data.specs.Matching.{key_of, row_at, has_print, place_at};
+ghost use Rattle.dd_data.specs.Matching.{key_of, print_at, is_held, row_at, has_print};
 
 use dd_block::Fp;
 use dd_index::Index;
-use dd_lists::Nodes;
 use dd_record::BRow;
 
 // The key of a fingerprint: its first eight bytes as a number, the lowest first.
@@ -24,23 +22,34 @@ pub(crate) fn key_of(fp: Fp) -> u64
     ])
 }
 
-// The node of a slot, where its block is listed.
-pub(crate) fn place(places: &[Option<u32>], slot: u32) -> Option<u32>
-    ensures { result ≡ place_at slot places.now }
+// The fingerprint of a slot whose block is listed.
+pub(crate) fn print_at(prints: &[Option<Fp>], slot: u32) -> Option<Fp>
+    ensures { result ≡ print_at prints.now slot }
 {
-    match places.get(slot as usize) {
-        Some(node) => *node,
+    match prints.get(slot as usize) {
+        Some(print) => *print,
         None => None,
     }
 }
 
-// The row of a node, if there is one.
-pub(crate) fn row_of(nodes: &Nodes<BRow>, node: Option<u32>) -> Option<BRow>
-    requires { IfSome node (λ live. is_live live nodes.now ≡ true) }
-    ensures { result ≡ option_map (row_at nodes.now) node }
+// The row of a slot whose block is listed.
+pub(crate) fn row_at(prints: &[Option<Fp>], slot: u32) -> BRow
+    requires { is_held prints.now slot ≡ true }
+    ensures { result ≡ row_at prints.now slot }
 {
-    match node {
-        Some(live) => Some(*nodes.get(live)),
+    match print_at(prints, slot) {
+        Some(fp) => BRow { slot, fp },
+        None => unreachable!(),
+    }
+}
+
+// The row of such a slot, if there is one.
+pub(crate) fn row_of(prints: &[Option<Fp>], slot: Option<u32>) -> Option<BRow>
+    requires { IfSome slot (λ number. is_held prints.now number ≡ true) }
+    ensures { result ≡ option_map (row_at prints.now) slot }
+{
+    match slot {
+        Some(number) => Some(row_at(prints, number)),
         None => None,
     }
 }
@@ -52,20 +61,30 @@ pub(crate) fn is_like(row: BRow, fp: Fp) -> bool
     row.fp == fp
 }
 
-// The row of the first node with a fingerprint, of those under its key from a node on.
-pub(crate) fn seek(nodes: &Nodes<BRow>, index: &Index, from: Option<u32>, fp: Fp) -> Option<BRow>
+// Whether the block of a slot is listed, with this fingerprint.
+pub(crate) fn is_listed_as(prints: &[Option<Fp>], slot: u32, fp: Fp) -> bool
+    ensures { result ≡ (is_held prints.now slot && has_print prints.now fp slot) }
+{
+    match print_at(prints, slot) {
+        Some(print) => print == fp,
+        None => false,
+    }
+}
+
+// The row of the first slot with a fingerprint, of those under its key from a slot on.
+pub(crate) fn seek(prints: &[Option<Fp>], index: &Index, from: Option<u32>, fp: Fp) -> Option<BRow>
     requires from { from ≡ slice_get (from_on from (nodes_of (key_of fp) index.now)) 0 }
     requires distinct { IsDistinct (λ x y. x == y) (nodes_of (key_of fp) index.now) }
-    requires live { (node : ℕ) → is_in node (nodes_of (key_of fp) index.now) ≡ true → is_live node nodes.now ≡ true }
-    ensures { result ≡ option_map (row_at nodes.now) (slice_get (filter (has_print nodes.now fp) (from_on from (nodes_of (key_of fp) index.now))) 0) }
+    requires held { (slot : ℕ) → is_in slot (nodes_of (key_of fp) index.now) ≡ true → is_held prints.now slot ≡ true }
+    ensures { result ≡ option_map (row_at prints.now) (slice_get (filter (has_print prints.now fp) (from_on from (nodes_of (key_of fp) index.now))) 0) }
 {
     let mut at = from;
-    while let Some(node) = at {
-        let row = *nodes.get(node);
+    while let Some(slot) = at {
+        let row = row_at(prints, slot);
         if is_like(row, fp) {
             return Some(row);
         }
-        at = index.next_same(node);
+        at = index.next_same(slot);
     }
     None
 }

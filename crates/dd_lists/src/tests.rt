@@ -23,6 +23,19 @@ fn numbers_move_within_their_list(rt: HostRuntime) -> Result<(), Fail> {
 }
 
 #[test]
+fn numbers_move_where_there_is_one_list(rt: HostRuntime) -> Result<(), Fail> {
+    let mut lists = Lists::new(rt.alloc(), 2, 1)?;
+    lists.push_front(0, 1);
+    lists.push_front(0, 0);
+    lists.move_front(1);
+    assert_eq!(rt; lists.front(0), Some(1));
+    assert_eq!(rt; lists.next(1), Some(0));
+    assert_eq!(rt; lists.back(0), Some(0));
+    assert_eq!(rt; lists.list_of(1), Some(0));
+    Ok(())
+}
+
+#[test]
 fn a_node_stands_in_two_lanes(rt: HostRuntime) -> Result<(), Fail> {
     let mut nodes: Nodes<u32> = Nodes::reserve(rt.alloc(), 2, [1, 3, 1])?;
     let node = nodes.add(7);

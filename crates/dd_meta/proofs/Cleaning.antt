@@ -1,16 +1,16 @@
 -- An address made clean, said of rows and of addresses.
-use Rattle.std.proofs.Common.{◌≡◌, ℕ, ◌==◌, not, Bool, true, false, List, [], ◌∷◌, map, refl, sym, ◌∙◌, ap, subst, Option, Some, None, cond, is_some}
-use Rattle.std.specs.Prelude.{unwrap_or}
+use Rattle.std.proofs.Common.{◌≡◌, ℕ, ◌==◌, not, Bool, true, false, List, [], ◌∷◌, map, refl, sym, ◌∙◌, ap, subst, Some, cond, is_some}
 use Rattle.std.specs.List.{AllByRecursion, IsDistinct}
-use Rattle.std.proofs.lemmas.Bool.{eqb-true, both_ways}
+use Rattle.std.proofs.lemmas.Bool.{eqb-true}
 use Rattle.dd_record.specs.declared.row.ARow.{ARow}
 use Rattle.dd_record.specs.Table.{a_row}
 use Rattle.dd_record.specs.Replay.{cleaned}
 use Rattle.dd_lists.specs.Lists.{without}
-use Rattle.dd_meta.specs.Entries.{Meta, Writes, blank, rows_of, row_of, row_named, owed_to}
+use Rattle.dd_meta.specs.Entries.{Meta, Writes, rows_of, row_of, row_named, owed_to}
 use Rattle.dd_meta.specs.Keeping.{IsMeta}
 use Rattle.dd_meta.specs.Walks.{but}
 use Rattle.dd_meta.proofs.Marking.{marked}
+use Rattle.dd_meta.proofs.Placed.{some_is}
 use Rattle.dd_meta.proofs.Referring.{found_address}
 use Rattle.dd_meta.proofs.Stepping.{turn}
 
@@ -43,10 +43,6 @@ placed_clean a row (r ∷ rows) d h = step (r.address == a) refl h (placed_clean
         ∙ ap (λ (l : List ARow). marked false r ∷ l) (placed_none a (marked false row) rows (subst (λ (n : ℕ). AllByRecursion (λ (x : ARow). (n == x.address) ≡ false) rows) (eqb-true _ _ e) d.0))
 
 module _ (old new : Meta) (k : IsMeta old) (address node : ℕ) (has : is_some (row_of node old) ≡ true) (found : row_of node old ≡ a_row address (rows_of old)) (w : Writes old new node (marked false (row_named node old))) where
-  some_is : (o : Option ARow) → is_some o ≡ true → o ≡ Some (unwrap_or o blank)
-  some_is None h = absurd (both_ways false refl h)
-  some_is (Some row) h = refl
-
   named : a_row address (rows_of old) ≡ Some (row_named node old)
   named = sym found ∙ some_is (row_of node old) has
 

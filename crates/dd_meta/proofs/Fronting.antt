@@ -1,5 +1,5 @@
 -- What bringing an address to the front makes of a metadata cache, listed before or new.
-use Rattle.std.proofs.Common.{◌≡◌, inl, inr, ℕ, ◌+◌, ◌==◌, not, Bool, true, false, List, [], ◌∷◌, length, map, refl, sym, ◌∙◌, ap, subst, arith, Option, Some, None, cond, is_some, count_by}
+use Rattle.std.proofs.Common.{◌≡◌, inl, inr, ℕ, ◌+◌, ◌==◌, not, Bool, true, false, List, [], ◌∷◌, length, map, refl, sym, ◌∙◌, ap, subst, arith, Option, Some, cond, is_some, count_by}
 use Rattle.std.specs.Prelude.{◌&&◌, ◌||◌, filter, find, option_map, option_and_then, unwrap_or, IfSome}
 use Rattle.std.specs.List.{IsDistinct}
 use Rattle.std.proofs.lemmas.Bool.{eq-eqb, ne_eqb, cases_eq, both_ways}
@@ -14,6 +14,7 @@ use Rattle.dd_meta.specs.Entries.{Entry, Meta, Brings, Writes, Fronts, Renews, b
 use Rattle.dd_meta.specs.Matching.{row_at, address_of, entry_of, listed, shown, IsBelow, home_of, is_home, with_row, Matches}
 use Rattle.dd_meta.proofs.Numbers.{map_in_same, map_map, head_out, fewer, filter_map}
 use Rattle.dd_meta.proofs.Homes.{put_once}
+use Rattle.dd_meta.proofs.Placed.{some_is}
 use Rattle.dd_meta.proofs.Rows.{found_row, row_got}
 use Rattle.dd_meta.proofs.Marking.{named_live, named_is}
 use Rattle.dd_meta.proofs.Writing.{written_matches, written_shown}
@@ -26,10 +27,6 @@ fronted_in n m xs here =
       | inl same ↦ ap (λ i. is_in i (n ∷ without n xs)) same ∙ in_here n (without n xs) ∙ sym here ∙ ap (λ i. is_in i xs) (sym same)
       | inr other ↦ ap (λ t. t || is_in m (without n xs)) (ne_eqb m n other) ∙ in_without_other m n xs (λ e. other (sym e))
     ]
-
-some_is : (o : Option ARow) → is_some o ≡ true → o ≡ Some (unwrap_or o blank)
-some_is None h = absurd (both_ways false refl h)
-some_is (Some row) h = refl
 
 -- rows of entries that pass a test on them
 map_filter : (p : ARow → Bool) (es : List Entry) → map (λ (e : Entry). e.row) (filter (λ (e : Entry). not (p e.row)) es) ≡ filter (λ row. not (p row)) (map (λ (e : Entry). e.row) es)

@@ -9,6 +9,7 @@ pub mod Homes
 pub mod Marking
 pub mod Numbers
 pub mod Owed
+mod Placed
 pub mod Referring
 pub mod Rows
 pub mod Stepping

@@ -1,21 +1,23 @@
 -- Taking the links to a slot, one node after the other.
-use Rattle.std.proofs.Common.{◌≡◌, ◌≢◌, inl, inr, ℕ, ◌+◌, ◌<◌, not, Bool, true, false, List, [], ◌∷◌, length, map, refl, sym, ◌∙◌, ap, subst, Some, None, cond, slice_get, reverse}
+use Rattle.std.proofs.Common.{◌≡◌, ◌≢◌, inl, inr, ℕ, ◌+◌, ◌<◌, not, Bool, true, false, List, [], ◌∷◌, length, map, refl, sym, ◌∙◌, ap, subst, Some, None, cond, set, slice_get, reverse}
 use Rattle.std.specs.Prelude.{◌&&◌, unwrap_or}
 use Rattle.std.specs.List.{AllByRecursion}
 use Rattle.std.proofs.lemmas.Bool.{cases_eq, both_ways, and_parts}
+use Rattle.std.proofs.lemmas.List.{length-map}
 use Rattle.dd_record.specs.declared.row.ARow.{ARow}
 use Rattle.dd_record.specs.declared.row.Link.TheVariants.{Lost}
 use Rattle.dd_record.specs.Table.{is_slot}
-use Rattle.dd_lists.specs.Lists.{is_in, list_at}
+use Rattle.dd_lists.specs.Lists.{is_in, list_at, without, taken_out}
 use Rattle.dd_lists.specs.Nodes.{Nodes, value_at, is_live}
 use Rattle.dd_lists.proofs.Members.{in_cons, without_none, at_taken}
 use Rattle.dd_index.specs.Index.{Index}
 use Rattle.dd_meta.specs.Entries.{Entry, blank, unlinked, unlinked_row}
-use Rattle.dd_meta.specs.Matching.{row_at, address_of, entry_of, listed, waiting, waiting_by, shown, home_of, is_home, with_row, Matches, IsClean, Unlinks}
+use Rattle.dd_meta.specs.Matching.{row_at, address_of, entry_of, listed, waiting, waiting_by, shown, home_of, is_home, with_row, with_lost, Matches, IsClean, Unlinks}
 use Rattle.dd_meta.proofs.Numbers.{map_same, map_in_same, map_map, taken_none}
-use Rattle.dd_meta.proofs.Homes.{clean_home, dirty_home, home_size}
+use Rattle.dd_meta.proofs.Homes.{clean_home, dirty_home}
+use Rattle.dd_meta.proofs.Placed.{some_is}
 use Rattle.dd_meta.proofs.Owed.{owed_same}
-use Rattle.dd_meta.proofs.Waiting.{one_list, wait_size}
+use Rattle.dd_meta.proofs.Waiting.{one_list}
 use Rattle.dd_meta.proofs.Writing.{written_matches, at_same, at_other, address_same}
 
 -- the rows of entries without their links
@@ -136,17 +138,20 @@ module _ (slot acap slots : ℕ) (index : Index) (nodes : Nodes ARow) (k : Match
       }
 
 -- a further one
-pub unlink_more : (slot slots : ℕ) (old nodes new : Nodes ARow) (node : ℕ) (was : ARow) → Unlinking slot slots old nodes → is_in node (list_at (slots + slot) nodes.referrers) ≡ true → value_at node nodes ≡ Some was
-    → new ≡ with_row slots node (lost was) nodes → Unlinking slot slots old new
-unlink_more slot slots old nodes new node was u here value is =
+pub unlink_more : (slot slots : ℕ) (old nodes new : Nodes ARow) (node : ℕ) → Unlinking slot slots old nodes → is_in node (list_at (slots + slot) nodes.referrers) ≡ true → is_live node nodes ≡ true
+    → new ≡ with_lost node nodes → Unlinking slot slots old new
+unlink_more slot slots old nodes new node u here live is =
     record {
       all = λ acap index k clean.
           let so_far = u.all acap index k clean in
-          let step = unlink_one slot acap slots index nodes so_far.matches so_far.clean node here was value in
-          subst (λ (n : Nodes ARow). Step slot acap slots index old n) (sym is)
+          let value = some_is (value_at node nodes) live in
+          let step = unlink_one slot acap slots index nodes so_far.matches so_far.clean node here (row_at nodes node) value in
+          let waits = same_waiting slot acap slots index nodes so_far.matches so_far.clean node here (row_at nodes node) value in
+          subst (λ (n : Nodes ARow). Step slot acap slots index old n)
+          (sym (is ∙ (λ i. record { values = set nodes.values node (Some (lost (row_at nodes node))); recency = nodes.recency; referrers = taken_out node nodes.referrers; waiting = sym waits i })))
           (record { matches = step.matches; clean = step.clean; entries = step.entries ∙ so_far.entries; dirty = step.dirty ∙ so_far.dirty; owed = step.owed ∙ so_far.owed });
-      one = ap (λ (n : Nodes ARow). length n.waiting) is ∙ wait_size was.dirty node nodes.waiting ∙ u.one;
-      two = ap (λ (n : Nodes ARow). length n.referrers) is ∙ home_size None node nodes.referrers ∙ u.two;
+      one = ap (λ (n : Nodes ARow). length n.waiting) is ∙ u.one;
+      two = ap (λ (n : Nodes ARow). length n.referrers) is ∙ length-map nodes.referrers (without node) ∙ u.two;
     }
 
 -- none is left

@@ -75,6 +75,25 @@ with_row slots node row nodes = record {
   waiting = waiting_by row.dirty node nodes.waiting;
 }
 
+-- the nodes after the link of one that doesn't wait was taken
+abbrev pub with_lost : ℕ → Nodes ARow → Nodes ARow
+with_lost node nodes = record {
+  values = slice_set nodes.values node (Some (record (row_at nodes node) { link = Lost }));
+  recency = nodes.recency;
+  referrers = taken_out node nodes.referrers;
+  waiting = nodes.waiting;
+}
+
+-- a node stands in this list of referrers, or in none
+abbrev pub IsHome : Option ℕ → ℕ → List (List ℕ) → Type 0
+IsHome home node lists = (list : ℕ) → is_in node (list_at list lists) ≡ is_home list home
+
+-- a node stands where its row says, among the referrers and waiting
+pub record IsPlaced (slots node : ℕ) (nodes : Nodes ARow) : Type 0 where
+  pub below : IsBelow slots (row_at nodes node).link
+  pub referring : IsHome (home_of slots (row_at nodes node)) node nodes.referrers
+  pub waits : is_in node (waiting nodes) ≡ (row_at nodes node).dirty
+
 -- live nodes are listed once, each in the referrers of its slot and, where it is dirty, waiting; and the
 -- index has each under its address, which no other node has
 pub record Matches (acap slots : ℕ) (nodes : Nodes ARow) (index : Index) : Type 0 where

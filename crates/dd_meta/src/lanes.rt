@@ -1,8 +1,8 @@
 // Nodes with a row each: where they stand among the referrers and those that wait.
-ghost use Rattle.std.specs.Prelude.{◌≡◌, ℕ, ◌+◌, ◌<◌, ◌^◌, ◌↔◌, Some, true, length, option_map, is_some, slice_get, IfSome};
+ghost use Rattle.std.specs.Prelude.{◌≡◌, ℕ, ◌+◌, ◌<◌, ◌^◌, Some, true, length, option_map, is_some, slice_get, IfSome};
 ghost use Rattle.dd_lists.specs.Lists.{is_in, is_listed, list_at, taken_out, put_front};
 ghost use Rattle.dd_lists.specs.Nodes.{is_live};
-ghost use Rattle.dd_meta.specs.Matching.{address_of as address_at, IsBelow, home_of, referring_by, waiting_by, with_row, Unlinks, row_at, passing};
+ghost use Rattle.dd_meta.specs.Matching.{address_of as address_at, IsBelow, IsHome, IsPlaced, home_by, is_home, referring_by, waiting, waiting_by, with_row, with_lost, Unlinks, row_at, passing};
 
 use dd_lists::{Lane, Nodes};
 use dd_record::{ARow, Link};
@@ -10,105 +10,128 @@ use dd_record::{ARow, Link};
 /// The one list of the recency lane, and of the waiting lane.
 pub const ALL: u32 = 0;
 
-// The list of referrers for such a row: of its slot, the dirty ones or the clean ones.
-fn home_of(row: ARow, slots: u32) -> Option<u32>
-    requires below { IsBelow slots row.link }
+// The list of referrers for such a link: of its slot, the dirty ones or the clean ones.
+fn home_by(link: Link, dirty: bool, slots: u32) -> Option<u32>
+    requires below { IsBelow slots link }
     requires fits { slots + slots < 2 ^ 32 }
-    ensures is { result ≡ home_of slots row }
+    ensures is { result ≡ home_by slots dirty link }
     ensures below { IfSome result (λ list. list < slots + slots) }
 {
-    match row.link {
+    match link {
         Link::Lost => None,
-        Link::Slot(slot) => Some(if row.dirty { slot } else { slots + slot }),
+        Link::Slot(slot) => Some(if dirty { slot } else { slots + slot }),
         Link::Zero => None,
     }
 }
 
+// Whether this is the list.
+fn is_home(home: Option<u32>, list: u32) -> bool
+    ensures { result ≡ is_home list home }
+{
+    match home {
+        Some(at) => at == list,
+        None => false,
+    }
+}
+
 // Takes a node out of the referrers that have it.
-pub fn leave(nodes: &mut Nodes<ARow>, node: u32)
-    requires { node < length nodes.old.values }
+fn leave(nodes: &mut Nodes<ARow>, node: u32, home: Option<u32>)
+    requires { IsHome home node nodes.old.referrers }
     ensures { nodes.new ≡ record nodes.old { referrers = taken_out node nodes.old.referrers } }
 {
-    match nodes.list_of(Lane::Referrers, node) {
+    match home {
         Some(_) => nodes.unlink(Lane::Referrers, node),
         None => {}
     }
 }
 
-// Whether a node stands in this list of referrers, and so in no other.
-fn stands(nodes: &Nodes<ARow>, node: u32, list: u32) -> bool
-    requires { node < length nodes.now.values }
-    ensures { result ≡ true → (home : ℕ) → (Some list ≡ Some home) ↔ (is_in node (list_at home nodes.now.referrers) ≡ true) }
-{
-    match nodes.list_of(Lane::Referrers, node) {
-        Some(home) => home == list,
-        None => false,
-    }
-}
-
 // Puts a node in front of a list of referrers, out of the one that has it. Where it is in front of this one,
 // nothing is written.
-fn put(nodes: &mut Nodes<ARow>, node: u32, list: u32)
+fn put(nodes: &mut Nodes<ARow>, node: u32, home: Option<u32>, list: u32)
     requires live { is_live node nodes.old ≡ true }
+    requires home { IsHome home node nodes.old.referrers }
     requires list { list < length nodes.old.referrers }
-    requires room { node < length nodes.old.values }
     ensures { nodes.new ≡ record nodes.old { referrers = put_front list node (taken_out node nodes.old.referrers) } }
 {
-    if stands(nodes, node, list) {
+    if is_home(home, list) {
         nodes.move_front(Lane::Referrers, node);
     } else {
-        leave(nodes, node);
+        leave(nodes, node, home);
         nodes.push_front(Lane::Referrers, list, node);
     }
 }
 
 // Takes a node out of the referrers that have it, and puts it in front of these.
-fn refer(nodes: &mut Nodes<ARow>, node: u32, home: Option<u32>)
+fn refer(nodes: &mut Nodes<ARow>, node: u32, home: Option<u32>, to: Option<u32>)
     requires live { is_live node nodes.old ≡ true }
-    requires home { IfSome home (λ list. list < length nodes.old.referrers) }
-    requires room { node < length nodes.old.values }
-    ensures { nodes.new ≡ record nodes.old { referrers = referring_by home node nodes.old.referrers } }
+    requires home { IsHome home node nodes.old.referrers }
+    requires to { IfSome to (λ list. list < length nodes.old.referrers) }
+    ensures { nodes.new ≡ record nodes.old { referrers = referring_by to node nodes.old.referrers } }
 {
-    match home {
-        Some(list) => put(nodes, node, list),
-        None => leave(nodes, node),
+    match to {
+        Some(list) => put(nodes, node, home, list),
+        None => leave(nodes, node, home),
     }
 }
 
 // Puts a node in front of those that wait, unless it waits there, or takes it away.
-fn wait(nodes: &mut Nodes<ARow>, node: u32, dirty: bool)
+fn wait(nodes: &mut Nodes<ARow>, node: u32, waits: bool, dirty: bool)
     requires live { is_live node nodes.old ≡ true }
     requires one { length nodes.old.waiting ≡ 1 }
-    requires room { node < length nodes.old.values }
+    requires waits { is_in node (waiting nodes.old) ≡ waits }
     ensures { nodes.new ≡ record nodes.old { waiting = waiting_by dirty node nodes.old.waiting } }
 {
-    match nodes.list_of(Lane::Waiting, node) {
-        Some(_) => {
-            if !dirty {
-                nodes.unlink(Lane::Waiting, node);
-            }
+    if waits {
+        if !dirty {
+            nodes.unlink(Lane::Waiting, node);
         }
-        None => {
-            if dirty {
-                nodes.push_front(Lane::Waiting, ALL, node);
-            }
-        }
+    } else if dirty {
+        nodes.push_front(Lane::Waiting, ALL, node);
     }
 }
 
 // Gives a node this row, and the places that go with it.
 pub fn write(nodes: &mut Nodes<ARow>, slots: u32, node: u32, row: ARow)
     requires live { is_live node nodes.old ≡ true }
+    requires placed { IsPlaced slots node nodes.old }
     requires one { length nodes.old.waiting ≡ 1 }
     requires two { length nodes.old.referrers ≡ slots + slots }
     requires fits { slots + slots < 2 ^ 32 }
-    requires room { node < length nodes.old.values }
     requires below { IsBelow slots row.link }
     ensures { nodes.new ≡ with_row slots node row nodes.old }
 {
-    refer(nodes, node, home_of(row, slots));
-    wait(nodes, node, row.dirty);
+    let was = nodes.get(node);
+    let home = home_by(was.link, was.dirty, slots);
+    let waits = was.dirty;
+    refer(nodes, node, home, home_by(row.link, row.dirty, slots));
+    wait(nodes, node, waits, row.dirty);
     *nodes.get_mut(node) = row;
+}
+
+// Takes a node out of the referrers of its slot, where it has one.
+pub fn part(nodes: &mut Nodes<ARow>, slots: u32, node: u32)
+    requires live { is_live node nodes.old ≡ true }
+    requires placed { IsPlaced slots node nodes.old }
+    requires fits { slots + slots < 2 ^ 32 }
+    ensures { nodes.new ≡ record nodes.old { referrers = taken_out node nodes.old.referrers } }
+{
+    let row = nodes.get(node);
+    let home = home_by(row.link, row.dirty, slots);
+    leave(nodes, node, home);
+}
+
+// Takes the link of a node that refers to a slot and doesn't wait.
+fn lose(nodes: &mut Nodes<ARow>, node: u32)
+    requires live { is_live node nodes.old ≡ true }
+    requires listed { is_listed node nodes.old.referrers ≡ true }
+    ensures { nodes.new ≡ with_lost node nodes.old }
+{
+    let row = *nodes.get(node);
+    nodes.unlink(Lane::Referrers, node);
+    *nodes.get_mut(node) = ARow {
+        link: Link::Lost,
+        ..row
+    };
 }
 
 // Takes the links of the clean nodes that refer to a slot.
@@ -120,16 +143,7 @@ pub fn unlink_referrers(nodes: &mut Nodes<ARow>, slots: u32, slot: u32)
     ensures { Unlinks slot slots nodes.old nodes.new }
 {
     while let Some(node) = nodes.front(Lane::Referrers, slots + slot) {
-        let row = *nodes.get(node);
-        write(
-            nodes,
-            slots,
-            node,
-            ARow {
-                link: Link::Lost,
-                ..row
-            },
-        );
+        lose(nodes, node);
     }
 }
 

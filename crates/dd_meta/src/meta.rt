@@ -11,7 +11,7 @@ ghost use Rattle.dd_meta.specs.Entries.{rows_of, node_of, row_of, row_named, owe
 mod filling;
 mod steps;
 
-use crate::lanes::{ALL, address_of, leave, unlink_referrers, write};
+use crate::lanes::{ALL, address_of, part, unlink_referrers, write};
 use dd_block::Fp;
 use dd_index::Index;
 use dd_lists::{Lane, Nodes};
@@ -230,7 +230,7 @@ impl MetaCache {
     {
         match self.nodes.back(Lane::Recency, ALL) {
             Some(node) => {
-                leave(&mut self.nodes, node);
+                part(&mut self.nodes, self.slots, node);
                 self.nodes.unlink(Lane::Recency, node);
                 self.index.remove(node);
                 self.nodes.remove(node)

@@ -6,7 +6,7 @@ use Rattle.dd_data.proofs.Seeking.{IsSought}
 use Rattle.dd_data.proofs.walks.seek.Given as goal
 
 abbrev pub invariant-loop-at : goal.invariant-loop-at
-invariant-loop-at l = IsSought (has_print l.nodes l.fp) (nodes_of (key_of l.fp) l.index) l.fn.from l.at
+invariant-loop-at l = IsSought (has_print l.prints l.fp) (nodes_of (key_of l.fp) l.index) l.fn.from l.at
 
 abbrev pub decreases-loop-at : goal.decreases-loop-at
 decreases-loop-at l = length (from_on l.at (nodes_of (key_of l.fp) l.index))

@@ -1,16 +1,16 @@
 use Rattle.std.proofs.Common.{refl}
 use Rattle.dd_meta.proofs.Marking.{named_live}
-use Rattle.dd_meta.proofs.Writing.{live_within}
 use Rattle.dd_meta.proofs.Fronting.{brought, front_matches, front_shown}
 use Rattle.dd_meta.proofs.Facts.{meta_kept}
+use Rattle.dd_meta.proofs.Placed.{placed_is}
 use Rattle.dd_meta.proofs.meta.MetaCache.front.Goals as goal
 
 pub write-requires-clause-live : goal.write-requires-clause-live
 write-requires-clause-live c = named_live c.self.invariant c.bring-node.new.self c.self.view_is c.bring-node.result (brought c.args.self.now c.bring-node.new.self c.args.address c.bring-node.result c.bring-node.ensures)
 
-pub write-requires-clause-room : goal.write-requires-clause-room
-write-requires-clause-room c =
-    live_within c.bring-node.result c.self.inside.nodes
+pub write-requires-clause-placed : goal.write-requires-clause-placed
+write-requires-clause-placed c =
+    placed_is c.self.invariant c.bring-node.result
     (named_live c.self.invariant c.bring-node.new.self c.self.view_is c.bring-node.result (brought c.args.self.now c.bring-node.new.self c.args.address c.bring-node.result c.bring-node.ensures))
 
 pub invariant_of-self : goal.invariant_of-self

@@ -1,10 +1,14 @@
 use Rattle.std.proofs.Common.{true}
 use Rattle.dd_meta.proofs.Marking.{named_live, mark_matches, mark_shown}
 use Rattle.dd_meta.proofs.Facts.{meta_kept}
+use Rattle.dd_meta.proofs.Placed.{placed_is}
 use Rattle.dd_meta.proofs.meta.MetaCache.set_dirty.Goals as goal
 
 pub get-row-requires : goal.get-row-requires
 get-row-requires c = named_live c.self.invariant c.args.self.now c.self.view_is c.args.node c.requires.listed
+
+pub write-requires-clause-placed : goal.write-requires-clause-placed
+write-requires-clause-placed c = placed_is c.self.invariant c.args.node (named_live c.self.invariant c.args.self.now c.self.view_is c.args.node c.requires.listed)
 
 pub invariant_of-self : goal.invariant_of-self
 invariant_of-self c = mark_matches c.self.invariant c.args.self.now c.self.view_is c.args.node c.requires.listed c.get-row.result.now c.get-row.ensures true (λ _. c.requires.linked) c.write.new.nodes c.write.ensures
