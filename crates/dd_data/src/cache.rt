@@ -131,7 +131,7 @@ impl DataCache {
         requires { IsTrue (is_some (b_row slot self.old.rows)) }
         ensures { self.new ≡ record self.old { rows = fronted_row slot self.old.rows } }
     {
-        self.recency.move_front(slot);
+        self.recency.move_front(ALL, slot);
         self.index.move_front(slot);
     }
 

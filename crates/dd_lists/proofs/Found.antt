@@ -1,9 +1,9 @@
 -- What is found in a list, in lists after a call, and in a list of options.
 use Rattle.std.proofs.Common.{◌≡◌, ◌⊎◌, inl, inr, ℕ, zero, suc, ◌<◌, Bool, true, false, List, [], ◌∷◌, length, refl, sym, ◌∙◌, ap, Option, Some, None, get_or, cond, ◌==◌, slice_get, IfSome}
-use Rattle.std.proofs.lemmas.Bool.{cases_eq, cases_lt, both_ways}
+use Rattle.std.proofs.lemmas.Bool.{cases_eq, cases_lt}
 use Rattle.std.proofs.lemmas.List.{get_or_past}
 use Rattle.dd_lists.specs.Lists.{is_in, is_listed, list_at, without, fronted, put_front, taken_out, moved_front, behind, before, before_from}
-use Rattle.dd_lists.proofs.Members.{in_cons, in_here, in_later, in_without_other, gone, listed_in, listed_from, at_put, at_put_other, at_taken, at_moved}
+use Rattle.dd_lists.proofs.Members.{in_cons, in_here, in_later, in_without_other, in_taken, in_put, listed_in, listed_from, at_moved}
 
 -- where a node is found in a list
 pub first_in_list : (n : ℕ) (xs : List ℕ) → slice_get xs 0 ≡ Some n → is_in n xs ≡ true
@@ -42,23 +42,12 @@ before_in_list n m xs h = elim (before_from_in None n m xs h) [ inl never ↦ ab
 pub listed_put : (l n m : ℕ) (lists : List (List ℕ)) → l < length lists → is_listed m (put_front l n lists) ≡ true → (m ≡ n) ⊎ (is_listed m lists ≡ true)
 listed_put l n m lists within h =
     let found = listed_in m (put_front l n lists) h in
-    elim (cases_eq found.0 l) [
-      | inl same ↦
-          elim (in_cons m n (list_at l lists) (sym (ap (is_in m) (ap (λ k. list_at k (put_front l n lists)) same ∙ at_put l n lists within)) ∙ found.1)) [
-            | inl it ↦ inl it
-            | inr there ↦ inr (listed_from m l lists there)
-          ]
-      | inr other ↦ inr (listed_from m found.0 lists (sym (ap (is_in m) (at_put_other l n found.0 lists other)) ∙ found.1))
-    ]
+    elim (in_put l n m found.0 lists within found.1) [ inl it ↦ inl it.0 | inr there ↦ inr (listed_from m found.0 lists there) ]
 
 pub listed_taken : (n m : ℕ) (lists : List (List ℕ)) → is_listed m (taken_out n lists) ≡ true → is_listed m lists ≡ true
 listed_taken n m lists h =
     let found = listed_in m (taken_out n lists) h in
-    let here : is_in m (without n (list_at found.0 lists)) ≡ true = sym (ap (is_in m) (at_taken n found.0 lists)) ∙ found.1 in
-    elim (cases_eq n m) [
-      | inl same ↦ absurd (both_ways _ (gone n (list_at found.0 lists)) (ap (λ k. is_in k (without n (list_at found.0 lists))) same ∙ here))
-      | inr other ↦ listed_from m found.0 lists (sym (in_without_other m n (list_at found.0 lists) other) ∙ here)
-    ]
+    listed_from m found.0 lists (in_taken n m found.0 lists found.1)
 
 pub fronted_in : (n m : ℕ) (xs : List ℕ) → is_in m (fronted n xs) ≡ true → is_in m xs ≡ true
 fronted_in n m xs h = step (is_in n xs) refl h

@@ -54,7 +54,7 @@ fn put(nodes: &mut Nodes<ARow>, node: u32, home: Option<u32>, list: u32)
     ensures { nodes.new ≡ record nodes.old { referrers = put_front list node (taken_out node nodes.old.referrers) } }
 {
     if is_home(home, list) {
-        nodes.move_front(Lane::Referrers, node);
+        nodes.move_front(Lane::Referrers, list, node);
     } else {
         leave(nodes, node, home);
         nodes.push_front(Lane::Referrers, list, node);

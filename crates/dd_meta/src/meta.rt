@@ -188,7 +188,7 @@ impl MetaCache {
         ensures keeps { IsMeta self.new }
     {
         match self.index.first(u64::from(address)) {
-            Some(node) => self.nodes.move_front(Lane::Recency, node),
+            Some(node) => self.nodes.move_front(Lane::Recency, ALL, node),
             None => unreachable!(),
         }
     }
@@ -200,7 +200,7 @@ impl MetaCache {
     {
         match self.index.first(u64::from(address)) {
             Some(node) => {
-                self.nodes.move_front(Lane::Recency, node);
+                self.nodes.move_front(Lane::Recency, ALL, node);
                 node
             }
             None => {

@@ -1,7 +1,6 @@
 use Rattle.std.proofs.Common.{◌∙◌, ap, sym, refl}
 use Rattle.dd_lists.specs.Lists.{is_listed}
 use Rattle.dd_lists.specs.Nodes.{Nodes}
-use Rattle.dd_lists.proofs.Members.{listed_from}
 use Rattle.dd_lists.proofs.Views.{moved_is, taken_free}
 use Rattle.dd_record.specs.declared.row.ARow.{ARow}
 use Rattle.dd_meta.proofs.Placed.{only_here}
@@ -10,7 +9,7 @@ use Rattle.dd_meta.proofs.lanes.put.Goals as goal
 pub move_front-requires : goal.move_front-requires
 move_front-requires c =
     let only = only_here c.args.list c.args.home c.args.node c.args.nodes.now.referrers c.requires.home (sym c.is_home.ensures ∙ c.if-is_home.true) in
-    listed_from c.args.node c.args.list c.args.nodes.now.referrers ((only c.args.list).0 refl)
+    (only c.args.list).0 refl
 
 pub returns-then-is_home : goal.returns-then-is_home
 returns-then-is_home c =

@@ -3,13 +3,11 @@ use Rattle.dd_record.specs.Table.{b_row}
 use Rattle.dd_data.specs.Blocks.{Data}
 use Rattle.dd_data.specs.Matching.{key_of, print_of}
 use Rattle.dd_data.proofs.Shown.{is_there, chain_in}
-use Rattle.dd_data.proofs.Changing.{in_lists, moved_matches, moved_view}
+use Rattle.dd_data.proofs.Changing.{moved_matches, moved_view}
 use Rattle.dd_data.proofs.cache.DataCache.front_known.Goals as goal
 
 pub move_front-requires : goal.move_front-requires
-move_front-requires c =
-    let here = is_there c.self.invariant c.args.slot (ap (λ (d : Data). is_some (b_row c.args.slot d.rows)) c.self.view_is ∙ c.requires) in
-    in_lists c.self.invariant c.args.slot here
+move_front-requires c = is_there c.self.invariant c.args.slot (ap (λ (d : Data). is_some (b_row c.args.slot d.rows)) c.self.view_is ∙ c.requires)
 
 pub move_front-requires-2 : goal.move_front-requires-2
 move_front-requires-2 c =

@@ -2,7 +2,6 @@ use Rattle.std.proofs.Common.{◌≡◌, ◌∙◌, ℕ, ◌<◌, ap, sym, subst
 use Rattle.dd_record.specs.declared.row.ARow.{ARow}
 use Rattle.dd_lists.specs.Lists.{put_front}
 use Rattle.dd_lists.specs.Nodes.{Nodes}
-use Rattle.dd_lists.proofs.Members.{listed_from}
 use Rattle.dd_index.specs.Index.{Inserts}
 use Rattle.dd_meta.specs.Entries.{Meta, Brings, is_listed_address}
 use Rattle.dd_meta.specs.Matching.{Matches, shown}
@@ -12,7 +11,7 @@ use Rattle.dd_meta.proofs.Adding.{added_matches, added_shown}
 use Rattle.dd_meta.proofs.meta.MetaCache.bring.Goals as goal
 
 pub move_front-requires : goal.move_front-requires
-move_front-requires c = listed_from c.in-Some.node 0 c.self.inside.nodes.recency (first_in c.self.invariant c.args.address _ c.in-Some.node _ c.first.ensures c.from.ensures c.in-Some.is).0
+move_front-requires c = (first_in c.self.invariant c.args.address _ c.in-Some.node _ c.first.ensures c.from.ensures c.in-Some.is).0
 
 pub invariant_of-self : goal.invariant_of-self
 invariant_of-self c =

@@ -4,7 +4,6 @@ use Rattle.std.proofs.lemmas.Bool.{false≢true}
 use Rattle.dd_record.specs.declared.row.ARow.{ARow}
 use Rattle.dd_record.specs.Table.{a_row}
 use Rattle.dd_lists.specs.Nodes.{Nodes}
-use Rattle.dd_lists.proofs.Members.{listed_from}
 use Rattle.dd_meta.specs.Entries.{Meta, Renews, is_listed_address, rows_of}
 use Rattle.dd_meta.specs.Keeping.{IsMeta}
 use Rattle.dd_meta.specs.Matching.{Matches, shown}
@@ -14,7 +13,7 @@ use Rattle.dd_meta.proofs.Fronting.{moved_matches, moved_renews}
 use Rattle.dd_meta.proofs.meta.MetaCache.renew.Goals as goal
 
 pub move_front-requires : goal.move_front-requires
-move_front-requires c = listed_from c.in-Some.node 0 c.self.inside.nodes.recency (first_in c.self.invariant c.args.address _ c.in-Some.node _ c.first.ensures c.from.ensures c.in-Some.is).0
+move_front-requires c = (first_in c.self.invariant c.args.address _ c.in-Some.node _ c.first.ensures c.from.ensures c.in-Some.is).0
 
 pub invariant_of-self : goal.invariant_of-self
 invariant_of-self c =
