@@ -1,12 +1,13 @@
 -- How a run ends, behind its last line.
-use Rattle.std.proofs.Common.{◌≡◌, ◌≢◌, ◌⊎◌, inl, inr, ⊎_elim, ℕ, ◌+◌, ◌≤◌, true, false, List, ◌++◌, take, drop, refl, sym, ◌∙◌, ap, subst, arith, Err}
+use Rattle.std.proofs.Common.{◌≡◌, ◌≢◌, ◌⊎◌, inl, inr, ⊎_elim, ℕ, ◌+◌, ◌≤◌, true, false, List, ◌++◌, take, drop, refl, sym, ◌∙◌, ap, subst, arith, Option, Some, None, Err}
 use Rattle.std.proofs.lemmas.List.{take-append-drop}
 use Rattle.dd_block.specs.declared.print.Fp.{Fp}
 use Rattle.dd_block.specs.declared.geometry.Geometry.{Geometry}
 use Rattle.dd_rig.specs.declared.device.Dev.{Dev}
 use Rattle.dd_rig.specs.declared.device.Dev.TheVariants as dev
+use Rattle.dd_rig.specs.declared.tallies.Calls.{Calls}
 use Rattle.dd_rig.specs.declared.tallies.Counts.{Counts}
-use Rattle.dd_rig.specs.Counts.{IsQuiet, IsStill, Makes, NeverFalls, Quota, Rose, up_to}
+use Rattle.dd_rig.specs.Counts.{CalledAtMost, IsQuiet, IsStill, Makes, NeverFalls, Quota, Rose, up_to}
 use Rattle.dd_rig.specs.Device.{Device, IsImage}
 use Rattle.dd_rig.specs.World.{World, Outcome, IsOwn, MayLeave, WithinEmit, shown}
 use Rattle.dd_model.specs.State.{Sizes, State}
@@ -25,7 +26,7 @@ use Rattle.dd_loop.specs.declared.ending.Ending.{Ending}
 use Rattle.dd_loop.specs.declared.ending.Ending.TheVariants.{Served, Refused, Stopped, Unheard}
 use Rattle.dd_loop.specs.declared.halt.Halt.TheVariants as halts
 use Rattle.dd_loop.specs.Ending.{ending_line, refused_status, status_of, stopped_status, SaysLast, WithinLast}
-use Rattle.dd_loop.specs.Saying.{EndsIn, SaysAlone}
+use Rattle.dd_loop.specs.Saying.{EndsIn, IsIdle, SaysAlone}
 use Rattle.dd_loop.specs.Serving.{ServedUpTo}
 use Rattle.dd_loop.proofs.Lastly.{alone_since}
 use Rattle.dd_loop.proofs.Reading.{commands_some}
@@ -153,7 +154,8 @@ quiet_fault print printed geo (open_fault.Group region at) new s a b c h rose fa
 quiet_fault print printed geo (open_fault.Worn value) new s a b c h rose falls quiet = absurd h
 quiet_fault print printed geo open_fault.Version1 new s a b c h rose falls quiet = absurd h
 
-pub fault_status : (fault : OpenFault) → IsUnserved (status_of (ending_of fault))
+-- the run was refused, there was no memory, or a device failed
+fault_status : (fault : OpenFault) → (status_of (ending_of fault) ≡ 3) ⊎ ((status_of (ending_of fault) ≡ 4) ⊎ (status_of (ending_of fault) ≡ 7))
 fault_status (open_fault.Memory e) = inr (inl refl)
 fault_status open_fault.FlashRead = inr (inr refl)
 fault_status open_fault.FlashWrite = inr (inr refl)
@@ -168,12 +170,29 @@ fault_status (open_fault.Worn value) = inl refl
 fault_status open_fault.Version1 = inl refl
 
 pub fault_asked : (fault : OpenFault) → status_of (ending_of fault) ≢ 2
-fault_asked fault = unserved_asked (fault_status fault)
+fault_asked fault = not_asked (fault_status fault)
   where
-    unserved_asked : {status : ℕ} → IsUnserved status → status ≢ 2
-    unserved_asked (inl e) = λ two. omega (arith, e, two)
-    unserved_asked (inr (inl e)) = λ two. omega (arith, e, two)
-    unserved_asked (inr (inr e)) = λ two. omega (arith, e, two)
+    not_asked : {status : ℕ} → (status ≡ 3) ⊎ ((status ≡ 4) ⊎ (status ≡ 7)) → status ≢ 2
+    not_asked (inl e) = λ two. omega (arith, e, two)
+    not_asked (inr (inl e)) = λ two. omega (arith, e, two)
+    not_asked (inr (inr e)) = λ two. omega (arith, e, two)
+
+last_since : (line : Option (List ℕ)) (a b c : Counts) (old middle new : World) → NeverFalls a b → middle.said ≡ old.said → SaysLast line b c middle new → SaysLast line a c old new
+last_since None a b c old middle new falls same says = says ∙ same
+last_since (Some line) a b c old middle new falls same says = alone_since line a b c old middle new falls same says
+
+-- an opening that failed, and its line
+pub is_unserved : (fault : OpenFault) (status : ℕ) (ending : Ending) (before between after : Counts) (old middle new : World) → status ≡ status_of ending → ending ≡ ending_of fault
+    → NeverFalls before between → middle.said ≡ old.said → ((device : Dev) → shown device middle ≡ shown device old) → SaysLast (ending_line ending) between after middle new → (new.flash ≡ middle.flash) × (new.disk ≡ middle.disk)
+    → Makes (up_to 4 1 0) (up_to 0 1 0) before between → IsIdle between after → IsUnserved status before after old new
+is_unserved fault status ending before between after old middle new ends is falls same shows says devices makes idle = record {
+  fault = fault;
+  ends = ends ∙ ap status_of is;
+  says = last_since (ending_line (ending_of fault)) before between after old middle new falls same (subst (λ (e : Ending). SaysLast (ending_line e) between after middle new) is says);
+  calls = (subst (λ (c : Calls). CalledAtMost (up_to 4 1 0) before.flash c) (sym idle.0) makes.0, subst (λ (c : Calls). CalledAtMost (up_to 0 1 0) before.disk c) (sym idle.1) makes.1);
+  flash_same = ap (λ (d : Device). d.shown) devices.0 ∙ shows dev.Flash;
+  disk_same = ap (λ (d : Device). d.shown) devices.1 ∙ shows dev.Disk;
+}
 
 -- a refusal is of the first fault
 pub refuses_first : {F : Type 0} (print : F) (fault : OpenFault) (size : Dev → ℕ) (flash : List ℕ) → TellsOpening {T = StoreOf F} (Err fault) size flash → status_of (ending_of fault) ≡ 3 → IsFirstFault size flash fault × (why : Refusal) × (ending_of fault ≡ Refused why)

@@ -1,7 +1,8 @@
 -- How a run ends whose devices weren't opened, and why any run ends.
-use Rattle.std.specs.Prelude.{◌≡◌, ◌⊎◌, ℕ, List}
+use Rattle.std.specs.Prelude.{◌≡◌, ℕ, List}
 use Rattle.dd_rig.specs.declared.device.Dev.{Dev}
 use Rattle.dd_rig.specs.declared.tallies.Counts.{Counts}
+use Rattle.dd_rig.specs.Counts.{Makes, up_to}
 use Rattle.dd_rig.specs.World.{World}
 use Rattle.dd_recover.specs.Opening.{IsFirstFault}
 use Rattle.dd_recover.specs.declared.opening_fault.OpenFault.{OpenFault}
@@ -12,7 +13,7 @@ use Rattle.dd_script.specs.declared.reply.Refusal.TheVariants as refusal
 use Rattle.dd_script.specs.declared.reply.Stop.TheVariants as stop
 use Rattle.dd_loop.specs.declared.ending.Ending.{Ending}
 use Rattle.dd_loop.specs.declared.ending.Ending.TheVariants.{Refused, Stopped}
-use Rattle.dd_loop.specs.Ending.{status_of}
+use Rattle.dd_loop.specs.Ending.{ending_line, status_of, SaysLast}
 use Rattle.dd_loop.specs.Saying.{SaysAlone}
 use Rattle.dd_answers.specs.Serving.{Caused}
 
@@ -46,6 +47,12 @@ pub record RefusesDevices (size : Dev → ℕ) (flash : List ℕ) (before after 
   pub flash_same : (new.flash).shown ≡ (old.flash).shown
   pub disk_same : (new.disk).shown ≡ (old.disk).shown
 
--- the run was refused, there was no memory, or a device failed
-abbrev pub IsUnserved : ℕ → Type 0
-IsUnserved status = (status ≡ 3) ⊎ ((status ≡ 4) ⊎ (status ≡ 7))
+-- Nothing was served: the run was refused, there was no memory, or a device failed in the opening. The line of that was said alone, no more
+-- calls were made than those of an opening, and both devices show what they showed.
+pub record IsUnserved (status : ℕ) (before after : Counts) (old new : World) : Type 0 where
+  pub fault : OpenFault
+  pub ends : status ≡ status_of (ending_of fault)
+  pub says : SaysLast (ending_line (ending_of fault)) before after old new
+  pub calls : Makes (up_to 4 1 0) (up_to 0 1 0) before after
+  pub flash_same : (new.flash).shown ≡ (old.flash).shown
+  pub disk_same : (new.disk).shown ≡ (old.disk).shown

@@ -55,7 +55,7 @@ pub fn generate<F: Fingerprint, L: Lists, R: Rig>(
     ensures caused { EndsForCause ⊤ (λ ending. R.tells → SaysEnding ending (R.counts rig.old) (R.counts rig.new) (R.world rig.old) (R.world rig.new)) result (R.counts rig.old) (R.counts rig.new) }
     ensures asked { result ≢ 2 }
     ensures refused { R.tells → result ≡ 3 → RefusesDevices (R.device_size rig.old) (shown FlashDevice (R.world rig.old)) (R.counts rig.old) (R.counts rig.new) (R.world rig.old) (R.world rig.new) }
-    ensures unopened { R.tells → (fault : OpenFault) → IsFirstFault (R.device_size rig.old) (shown FlashDevice (R.world rig.old)) fault → IsUnserved result }
+    ensures unopened { R.tells → (fault : OpenFault) → IsFirstFault (R.device_size rig.old) (shown FlashDevice (R.world rig.old)) fault → IsUnserved result (R.counts rig.old) (R.counts rig.new) (R.world rig.old) (R.world rig.new) }
     ensures early { (result ≡ 3) ⊎ (result ≡ 4) → Makes (up_to 4 1 0) (up_to 0 1 0) (R.counts rig.old) (R.counts rig.new) }
     ensures frame { Frame (R.counts rig.old) (R.counts rig.new) (R.device_size rig.old) (R.device_size rig.new) }
 {

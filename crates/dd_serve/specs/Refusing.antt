@@ -60,7 +60,7 @@ pub record RefusesSoon (asked : Asked) (status : ℕ) (tells : Type 0) (size : D
   pub first : tells → Refuses (refusal_for asked size (shown dev.Flash old)) status before after old new
 
 -- Where a flash has to be opened, a run is refused by the first condition under which it isn't: that line alone is said, and both devices
--- show what they showed. Under such a condition nothing is served.
+-- show what they showed. Under such a condition nothing is served, whatever fails: no more calls are made than those of an opening.
 pub record RefusesOpening (status : ℕ) (tells : Type 0) (size : Dev → ℕ) (before after : Counts) (old new : World) : Type 0 where
   pub first : tells → status ≡ 3 → RefusesDevices size (shown dev.Flash old) before after old new
-  pub unserved : tells → (fault : OpenFault) → IsFirstFault size (shown dev.Flash old) fault → IsUnserved status
+  pub unserved : tells → (fault : OpenFault) → IsFirstFault size (shown dev.Flash old) fault → IsUnserved status before after old new

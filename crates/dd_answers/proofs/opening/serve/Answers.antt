@@ -18,7 +18,7 @@ use Rattle.dd_answers.specs.Opening.{ending_of}
 use Rattle.dd_answers.specs.Serving.{IsBounded, Serves}
 use Rattle.dd_loop.proofs.Lastly.{ending_since, ending_later}
 use Rattle.dd_loop.proofs.More.{more_same}
-use Rattle.dd_answers.proofs.Ended.{opened_calls, Stops, stops, quiet_fault, refuses_first, unopened_within, unopened_behind, serves_unopened, by_three, caused_later, caused_since, fault_asked, opening_cause, quiet_behind, refuses_so, serves_since}
+use Rattle.dd_answers.proofs.Ended.{opened_calls, Stops, stops, quiet_fault, refuses_first, unopened_within, unopened_behind, serves_unopened, by_three, caused_later, caused_since, fault_asked, opening_cause, quiet_behind, refuses_so, is_unserved, serves_since}
 use Rattle.dd_answers.proofs.opening.serve.Goals as goal
 
 pub returns-in-Err-clause-crash : goal.returns-in-Err-clause-crash
@@ -128,6 +128,13 @@ returns-in-Ok-clause-caused g c =
 
 pub returns-in-Ok-clause-unopened : goal.returns-in-Ok-clause-unopened
 returns-in-Ok-clause-unopened g c = λ t fault first. absurd (c.in-Ok.ensures.fault t fault first)
+
+pub returns-in-Err-clause-unopened : goal.returns-in-Err-clause-unopened
+returns-in-Err-clause-unopened g c = λ t fault first.
+    is_unserved c.in-Err.fault c.finish.result c.ending_of-ending.result (g.R.Rig.counts c.args.rig.now) (g.R.Rig.counts c.open_store.new.rig) (g.R.Rig.counts c.finish.new.rig)
+    (g.R.Rig.world c.args.rig.now) (g.R.Rig.world c.open_store.new.rig) (g.R.Rig.world c.finish.new.rig)
+    c.finish.ensures.status c.ending_of-ending.ensures c.open_store.ensures.fails.1.0 (c.open_store.ensures.leaves t).said (c.open_store.ensures.leaves t).shows (c.finish.ensures.said t) (c.finish.ensures.devices t)
+    c.open_store.ensures.costs.calls c.finish.ensures.idle
 
 pub returns-in-Err-clause-caused : goal.returns-in-Err-clause-caused
 returns-in-Err-clause-caused g c =

@@ -9,8 +9,8 @@ use Rattle.dd_store.specs.Keeping.{Kept}
 use Rattle.dd_store.specs.Meaning.{sizes_of}
 use Rattle.dd_loop.specs.declared.ending.Ending.{Ending}
 use Rattle.dd_loop.specs.Ending.{ending_line, status_of, SaysLast, WithinLast}
-use Rattle.dd_answers.specs.Opening.{ending_of, IsUnserved}
-use Rattle.dd_answers.proofs.Ended.{Stops, stops, quiet_fault, refuses_first, unopened_within, unopened_behind, by_three, fault_asked, fault_status, quiet_behind, refuses_so}
+use Rattle.dd_answers.specs.Opening.{ending_of}
+use Rattle.dd_answers.proofs.Ended.{Stops, stops, quiet_fault, refuses_first, unopened_within, unopened_behind, by_three, fault_asked, is_unserved, quiet_behind, refuses_so}
 use Rattle.dd_loop.proofs.Lastly.{ending_since, ending_later}
 use Rattle.dd_loop.proofs.More.{more_same}
 use Rattle.dd_gen.specs.Large.{LeavesGenerated, TellsSums}
@@ -136,4 +136,8 @@ pub returns-in-Ok-clause-unopened : goal.returns-in-Ok-clause-unopened
 returns-in-Ok-clause-unopened g c = λ t fault first. absurd (c.in-Ok.ensures.fault t fault first)
 
 pub returns-in-Err-clause-unopened : goal.returns-in-Err-clause-unopened
-returns-in-Err-clause-unopened g c = λ t fault first. subst (λ (status : ℕ). IsUnserved status) (sym (c.finish.ensures.status ∙ ap status_of c.ending_of-ending.ensures)) (fault_status c.in-Err.fault)
+returns-in-Err-clause-unopened g c = λ t fault first.
+    is_unserved c.in-Err.fault c.finish.result c.ending_of-ending.result (g.R.Rig.counts c.args.rig.now) (g.R.Rig.counts c.open_store.new.rig) (g.R.Rig.counts c.finish.new.rig)
+    (g.R.Rig.world c.args.rig.now) (g.R.Rig.world c.open_store.new.rig) (g.R.Rig.world c.finish.new.rig)
+    c.finish.ensures.status c.ending_of-ending.ensures c.open_store.ensures.fails.1.0 (c.open_store.ensures.leaves t).said (c.open_store.ensures.leaves t).shows (c.finish.ensures.said t) (c.finish.ensures.devices t)
+    c.open_store.ensures.costs.calls c.finish.ensures.idle
