@@ -32,16 +32,6 @@ left held rest = held.bytes ++ (if held.ended then [] else rest)
 abbrev pub fuel : Held → ℕ
 fuel held = length held.bytes + (script_limit - held.taken)
 
--- the next byte, or the end
-abbrev pub NextByte : Option ℕ → List ℕ → List ℕ → Type 0
-NextByte None before after = (before ≡ []) × (after ≡ [])
-NextByte (Some b) before after = before ≡ b ∷ after
-
--- what was found used up one of the bytes that may be read; the end is seen only where more might be
-abbrev pub ByteBurns : Option ℕ → ℕ → ℕ → Type 0
-ByteBurns None before after = (after ≡ before) × (0 < after)
-ByteBurns (Some _) before after = before ≡ after + 1
-
 -- up to the end of the first line
 abbrev pub first_line : List ℕ → List ℕ
 first_line [] = []

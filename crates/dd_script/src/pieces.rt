@@ -2,9 +2,11 @@
 ghost use Rattle.std.specs.Prelude.{◌≡◌, ◌+◌, ◌-◌, ◌<◌, ◌≤◌, ◌≢◌, ◌↔◌, ◌++◌, [], length, take, OnErr, IfOk, OnOk, IfErr, IfSome, true, false};
 ghost use Rattle.dd_rig.specs.Counts.{Rose};
 ghost use Rattle.dd_script.specs.Line.{line_room};
-ghost use Rattle.dd_script.specs.Reading.{Held, left, fuel, piece_size, first_line, NextByte, NextLine, ByteBurns, LineBurns, EndsInside, Spends, Fails};
+ghost use Rattle.dd_script.specs.Reading.{Held, left, fuel, piece_size, first_line, after_line, has_end, NextLine, LineBurns, EndsInside, Spends, Fails};
 
+use dd_block::put_bytes;
 use dd_rig::{Failed, Source};
+use memchr::memchr;
 use std::alloc::{AllocError, Global};
 use std::marker::Model;
 
@@ -60,27 +62,10 @@ impl Pieces {
         })
     }
 
-    /// The next byte of the script, or None at its end.
-    pub fn next_byte<S: Source>(&mut self, source: &mut S) -> Result<Option<u8>, ScriptFault>
-        ensures byte { S.tells → IfOk result (λ byte. NextByte byte (left self.old (S.rest source.old)) (left self.new (S.rest source.new))) }
-        ensures piece { OnOk result (length self.new.bytes ≤ piece_size) }
-        ensures fuel { IfOk result (λ byte. ByteBurns byte (fuel self.old) (fuel self.new)) }
-        ensures later { S.failures source.old ≤ S.failures source.new }
-        ensures fault { IfErr result (λ fault. Fails (fuel self.old ≡ 0) fault (S.failures source.old) (S.failures source.new)) }
-    {
-        self.fill(source)?;
-        if self.from == self.until {
-            return Ok(None);
-        }
-        let byte = self.buffer[self.from];
-        self.from += 1;
-        Ok(Some(byte))
-    }
-
     // Takes the next piece, where nothing is held and the end hasn't come.
     fn fill<S: Source>(&mut self, source: &mut S) -> Result<(), ScriptFault>
         ensures same { S.tells → OnOk result (left self.new (S.rest source.new) ≡ left self.old (S.rest source.old)) }
-        ensures ended { OnOk result (self.new.bytes ≡ [] → self.new.ended ≡ true) }
+        ensures ended { OnOk result (self.new.bytes ≡ [] → (self.new.ended ≡ true) × (0 < fuel self.new)) }
         ensures fuel { OnOk result (fuel self.new ≡ fuel self.old) }
         ensures later { S.failures source.old ≤ S.failures source.new }
         ensures fault { IfErr result (λ fault. Fails (fuel self.old ≡ 0) fault (S.failures source.old) (S.failures source.new)) }
@@ -121,22 +106,64 @@ impl Pieces {
     {
         let mut size = 0;
         let mut begun = false;
-        loop {
-            let byte = match self.next_byte(source)? {
-                None if begun => return Ok(Some(size)),
-                None => return Ok(None),
-                Some(byte) => byte,
-            };
-            if byte == b'\n' {
-                return Ok(Some(size));
+        'parts: loop {
+            self.fill(source)?;
+            if self.is_over() {
+                return Ok(if begun { Some(size) } else { None });
             }
             begun = true;
-            if size < LINE_ROOM {
-                into[size] = byte;
-                size += 1;
+            let (kept, ended) = self.pass(into, size);
+            size = kept;
+            if ended {
+                return Ok(Some(size));
             }
         }
     }
+
+    // Whether nothing is held.
+    fn is_over(&self) -> bool
+        ensures { (result ≡ true) ↔ (self.now.bytes ≡ []) }
+    {
+        self.from == self.until
+    }
+
+    // Passes what is held of the line: up to its LF, and that too, or all. Puts it behind the first so many bytes of the slice, as
+    // far as it fits, and answers how much of the line is there now, and whether it ended.
+    fn pass(&mut self, into: &mut [u8], size: usize) -> (usize, bool)
+        requires room { length into.old ≡ line_room }
+        requires fits { size ≤ line_room }
+        ensures held { self.new ≡ record { bytes = after_line self.old.bytes; taken = self.old.taken; ended = self.old.ended } }
+        ensures line { take result.0 into.new ≡ take line_room (take size into.old ++ first_line self.old.bytes) }
+        ensures fits { result.0 ≤ line_room }
+        ensures ended { result.1 ≡ has_end self.old.bytes }
+        ensures piece { length self.new.bytes ≤ piece_size }
+    {
+        let held = &self.buffer[self.from..self.until];
+        match memchr(b'\n', held) {
+            Some(at) => {
+                let kept = put_part(into, size, &held[..at]);
+                self.from += at + 1;
+                (kept, true)
+            }
+            None => {
+                let kept = put_part(into, size, held);
+                self.from = self.until;
+                (kept, false)
+            }
+        }
+    }
+}
+
+// Puts bytes behind the first so many of the slice, as far as they fit, and answers how many stand there now.
+fn put_part(into: &mut [u8], size: usize, bytes: &[u8]) -> usize
+    requires room { length into.old ≡ line_room }
+    requires fits { size ≤ line_room }
+    ensures text { take result into.new ≡ take line_room (take size into.old ++ bytes.now) }
+    ensures fits { result ≤ line_room }
+{
+    let count = bytes.len().min(LINE_ROOM - size);
+    put_bytes(into, size, &bytes[..count]);
+    size + count
 }
 
 // Takes at most so many bytes to the beginning of the slice.
