@@ -20,6 +20,8 @@ use Rattle.dd_store.specs.declared.fault.StoreFault.{StoreFault}
 use Rattle.dd_store.specs.declared.fault.StoreFault.TheVariants.{FlashRead}
 use Rattle.dd_store.specs.declared.along.Along.TheVariants.{Age}
 use Rattle.dd_store.specs.Keeping.{StoreView, IsStore}
+use Rattle.dd_journal.specs.Sitting.{JournalView}
+use Rattle.dd_store.specs.Committing.{committed_store}
 use Rattle.dd_store.specs.Laying.{all_cleaned, all_without}
 use Rattle.dd_store.specs.Rounds.{Cleans, has_along}
 use Rattle.dd_store.specs.Serving.{HoldsThen, unlaid}
@@ -101,6 +103,10 @@ cleans_failed (Err fault) old middle new first next = λ is. cleans_then old mid
 -- where what is laid is forgotten nothing is cleaned
 pub forget_cleans : (old new : StoreView) → new ≡ unlaid old → Cleans old new
 forget_cleans old new is = subst (λ (v : StoreView). Cleans old v) (sym is) (cleans_none old (unlaid old) refl refl refl refl)
+
+-- and where what is pending was committed
+pub commit_cleans : (old new : StoreView) (journal : JournalView) → new ≡ committed_store (unlaid old) journal → journal.geo ≡ old.journal.geo → Cleans old new
+commit_cleans old new journal is same = subst (λ (v : StoreView). Cleans old v) (sym is) (cleans_none old (committed_store (unlaid old) journal) refl refl refl same)
 
 -- the dirty addresses are listed
 dirty_listed : (address : ℕ) (rows : List ARow) → is_dirty_at address rows ≡ true → is_among address (map (λ row. row.address) rows) ≡ true

@@ -1,6 +1,6 @@
 -- Calls of a store one after the other.
 use Rattle.std.proofs.Common.{◌≡◌, ◌⊎◌, inl, inr, ⊎_elim, List, ℕ, refl, sym, ◌∙◌, subst}
-use Rattle.std.specs.Prelude.{Result, Ok, Err}
+use Rattle.std.specs.Prelude.{Result, Ok, Err, OnOk}
 use Rattle.dd_block.specs.declared.print.Fp.{Fp}
 use Rattle.dd_rig.specs.Clock.{Clock, Elapses}
 use Rattle.dd_rig.specs.World.{World}
@@ -44,6 +44,16 @@ serves_then print first middle last between store before after c s next result c
       crash = goes_on crash after_it.crash (λ o stands. either_wider print goes.committed c s goes.either o.flash o.disk stands);
       leaves = leaves_wider print goes.committed c s goes.either result next store after after_it.leaves;
     }
+
+-- behind an Ok a store goes on
+pub on_leaves : {T : Type 0} (print : List ℕ → Fp) (result : Result T StoreFault) (c s next : State) (store : StoreView) (world : World) → Leaves print result c s next store world → OnOk result (GoesOn print c s store world next)
+on_leaves print (Ok value) c s next store world leaves = leaves
+on_leaves print (Err fault) c s next store world leaves = tt
+
+-- where its state was committed, it still is
+pub kept_sure : {T E : Type 0} (print : List ℕ → Fp) (result : Result T E) (store : StoreView) (world : World) (s : State) → OnOk result (GoesOn print s s store world s) → OnOk result (Kept print store world s s)
+kept_sure print (Ok value) store world s goes = subst (λ (c : State). Kept print store world c s) (⊎_elim (λ is. is) (λ is. is) goes.either) goes.kept
+kept_sure print (Err fault) store world s goes = tt
 
 -- the value of an Ok, and of an error, of another type
 pub serves_ok : {T U : Type 0} (print : List ℕ → Fp) (first last : Clock) (store : StoreView) (world : World) (c s next : State) (value : T) (other : U)
