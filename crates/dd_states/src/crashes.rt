@@ -1,5 +1,4 @@
-// Two reads, a flush, a read that lets the first block fall off, and a write that wants a slot, stopped at
-// each call: the slots of what is committed still have its blocks.
+// Commands that are stopped at each of their calls: what is committed then, and whose blocks the slots have.
 
 use crate::blocks::{DD, worked_disk};
 use crate::cache::{Cache, formatted, found_on};
@@ -11,42 +10,57 @@ use std::alloc::Global;
 use std::process::Abort;
 use std::test::Fail as Stop;
 
-// The first three calls are those of `find`. Each read makes one of the disk and writes a slot; each commit
-// makes four; the write makes one, as the only free slot has the first block until then, and writes it.
-const LAST: u64 = 18;
-
 // Where the slots begin.
 const SLOTS: usize = 1322;
 
-// Which are made, one behind the other.
-const CALLS: [Call; 5] = [
-    Call::Read(0),
-    Call::Read(1),
-    Call::Flush,
-    Call::Read(3),
-    Call::Write(5, DD),
-];
+// Commands that are made one behind the other, and stopped at a call.
+struct Stopped {
+    // As many as are made.
+    calls: &'static [Call],
+    // The last call of a device that they make. The first three are those of `find`.
+    last: u64,
+    // The counts that may be committed behind so many of them.
+    committed: &'static [&'static [u64]],
+}
+
+impl Stopped {
+    fn may_commit(&self, done: usize, count: u64) -> bool {
+        match self.committed.get(done) {
+            None => false,
+            Some(counts) => counts.iter().any(|committed| *committed == count),
+        }
+    }
+}
+
+// A read makes one call of the disk and writes a slot; each commit makes four; the write makes one, as the only
+// free slot has the first block until then, and writes it.
+const WAITING: Stopped = Stopped {
+    calls: &[
+        Call::Read(0),
+        Call::Read(1),
+        Call::Flush,
+        Call::Read(3),
+        Call::Write(5, DD),
+    ],
+    last: 18,
+    committed: &[&[0], &[0], &[0, 2], &[2], &[2, 3], &[3]],
+};
+
+// The commit makes four calls, and there is nothing to write back.
+const CLEANED: Stopped = Stopped {
+    calls: &[Call::Read(0), Call::Clean],
+    last: 9,
+    committed: &[&[0], &[0, 1], &[1]],
+};
 
 // How many of them are answered.
-fn answered(cache: &mut Cache<FirstByte>) -> Result<usize, Stop> {
-    for (made, call) in CALLS.into_iter().enumerate() {
-        if let Told::Fault(_) = cache.call(call)? {
+fn answered(cache: &mut Cache<FirstByte>, calls: &[Call]) -> Result<usize, Stop> {
+    for (made, call) in calls.iter().enumerate() {
+        if let Told::Fault(_) = cache.call(*call)? {
             return Ok(made);
         }
     }
-    Ok(5)
-}
-
-// What may be committed behind so many commands: nothing before the flush, two references behind it, and
-// three where the write made room.
-fn may_be_committed(answered: usize, count: u64) -> bool {
-    match answered {
-        0 | 1 => count == 0,
-        2 => count == 0 || count == 2,
-        3 => count == 2,
-        4 => count == 2 || count == 3,
-        _ => count == 3,
-    }
+    Ok(calls.len())
 }
 
 // Whether the slot of a record has the block of its address. It is that of a read whose block was new.
@@ -99,13 +113,18 @@ fn stops(
     alloc: Global,
     geo: Geometry,
     flash: &[u8],
+    stopped: &Stopped,
     call: u64,
 ) -> Result<(), Stop> {
     let disk = worked_disk();
     let mut cache = Cache::over(alloc, geo, flash, &disk, &[], FirstByte)?;
     cache.stop_at(call)?;
-    let done = answered(&mut cache)?;
-    assert_eq!(rt; done == 5, call > LAST, "stopped at {call}");
+    let done = answered(&mut cache, stopped.calls)?;
+    assert_eq!(rt;
+        done == stopped.calls.len(),
+        call > stopped.last,
+        "stopped at {call}"
+    );
     for pick in 0..4 {
         let left = cache.crash(alloc, pick)?;
         assert!(rt;
@@ -116,7 +135,7 @@ fn stops(
             None => assert!(rt; false, "at {call}, pick {pick}: another block"),
             Some(count) => {
                 assert!(rt;
-                    may_be_committed(done, count),
+                    stopped.may_commit(done, count),
                     "at {call}, pick {pick}: {count}"
                 );
             }
@@ -125,13 +144,22 @@ fn stops(
     Ok(())
 }
 
-#[test]
-fn the_slot_of_a_block_that_fell_off_waits_for_a_commit(rt: HostRuntime) -> Result<(), Stop> {
-    let alloc = rt.alloc();
+// At each of their calls, and not at all.
+fn stops_at_each(rt: &impl Abort, alloc: Global, stopped: &Stopped) -> Result<(), Stop> {
     let geo = Geometry::new(16, 8, 3, 2, 1, 8, 392)?;
     let flash = formatted(alloc, geo, 1370, &worked_disk())?;
-    for call in 4..=LAST + 1 {
-        stops(&rt, alloc, geo, &flash, call)?;
+    for call in 4..=stopped.last + 1 {
+        stops(rt, alloc, geo, &flash, stopped, call)?;
     }
     Ok(())
+}
+
+#[test]
+fn the_slot_of_a_block_that_fell_off_waits_for_a_commit(rt: HostRuntime) -> Result<(), Stop> {
+    stops_at_each(&rt, rt.alloc(), &WAITING)
+}
+
+#[test]
+fn a_clean_commits_a_read_where_nothing_is_dirty(rt: HostRuntime) -> Result<(), Stop> {
+    stops_at_each(&rt, rt.alloc(), &CLEANED)
 }
