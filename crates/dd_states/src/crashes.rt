@@ -18,7 +18,7 @@ struct Stopped {
     // As many as are made.
     calls: &'static [Call],
     // The last call of a device that they make. The first three are those of `find`.
-    last: u64,
+    last: u32,
     // The counts that may be committed behind so many of them.
     committed: &'static [&'static [u64]],
 }
@@ -122,7 +122,7 @@ fn stops(
     let done = answered(&mut cache, stopped.calls)?;
     assert_eq!(rt;
         done == stopped.calls.len(),
-        call > stopped.last,
+        call > u64::from(stopped.last),
         "stopped at {call}"
     );
     for pick in 0..4 {
@@ -148,7 +148,7 @@ fn stops(
 fn stops_at_each(rt: &impl Abort, alloc: Global, stopped: &Stopped) -> Result<(), Stop> {
     let geo = Geometry::new(16, 8, 3, 2, 1, 8, 392)?;
     let flash = formatted(alloc, geo, 1370, &worked_disk())?;
-    for call in 4..=stopped.last + 1 {
+    for call in 4..=u64::from(stopped.last) + 1 {
         stops(rt, alloc, geo, &flash, stopped, call)?;
     }
     Ok(())
