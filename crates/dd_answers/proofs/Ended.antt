@@ -104,19 +104,19 @@ still_all : (a b c : ℕ) → b ≤ c → IsStill a c → Rose a b → ⊥
 still_all a b c le still rose = omega (arith, le, still.0, still.1, rose)
 
 -- where no call fails and the script is bounded it is served, or there is no memory
-pub quiet_ending : (print : List ℕ → Fp) (sizes : Sizes) (start : State) (commands : List Command) (long : Type 0) (ending : Ending) (said : List ℕ) (new : World) (a b c : Counts) (m n : ℕ) → LoopEnds print sizes start commands ending said new a b
+pub quiet_ending : (print : List ℕ → Fp) (first : World) (sizes : Sizes) (start : State) (commands : List Command) (long : Type 0) (ending : Ending) (said : List ℕ) (new : World) (a b c : Counts) (m n : ℕ) → LoopEnds print first sizes start commands ending said new a b
     → Caused ⊥ long ending a b m n → NeverFalls b c → IsQuiet a c → IsStill m n → (long → ⊥) → (status_of ending ≡ 0) ⊎ (status_of ending ≡ 4)
-quiet_ending print sizes start commands long (Served false) said new a b c m n ends h falls quiet still bounded = inl refl
-quiet_ending print sizes start commands long (Served true) said new a b c m n ends h falls quiet still bounded =
+quiet_ending print first sizes start commands long (Served false) said new a b c m n ends h falls quiet still bounded = inl refl
+quiet_ending print first sizes start commands long (Served true) said new a b c m n ends h falls quiet still bounded =
     absurd (omega (arith, ends.fault, ends.sofar.paid.1.flash, ends.sofar.paid.1.disk, falls.flash.failed_reads, falls.disk.failed_reads, quiet.flash_reads.0, quiet.flash_reads.1, quiet.disk_reads.0, quiet.disk_reads.1))
-quiet_ending print sizes start commands long (Refused why) said new a b c m n ends h falls quiet still bounded = absurd h
-quiet_ending print sizes start commands long (Stopped stop.Flash) said new a b c m n ends h falls quiet still bounded =
+quiet_ending print first sizes start commands long (Refused why) said new a b c m n ends h falls quiet still bounded = absurd h
+quiet_ending print first sizes start commands long (Stopped stop.Flash) said new a b c m n ends h falls quiet still bounded =
     ⊎_elim (λ r. absurd (still_all _ _ _ falls.flash.failed_writes quiet.flash_writes r)) (λ r. absurd r.0) h
-quiet_ending print sizes start commands long (Stopped stop.Disk) said new a b c m n ends h falls quiet still bounded = absurd (still_all _ _ _ falls.disk.failed_writes quiet.disk_writes h)
-quiet_ending print sizes start commands long (Stopped stop.Script) said new a b c m n ends h falls quiet still bounded = absurd (still_all m n n (omega arith) still h)
-quiet_ending print sizes start commands long (Stopped stop.Length) said new a b c m n ends h falls quiet still bounded = absurd (bounded h)
-quiet_ending print sizes start commands long (Stopped stop.Memory) said new a b c m n ends h falls quiet still bounded = inr refl
-quiet_ending print sizes start commands long Unheard said new a b c m n ends h falls quiet still bounded = absurd (still_all _ _ _ falls.emits quiet.emits h)
+quiet_ending print first sizes start commands long (Stopped stop.Disk) said new a b c m n ends h falls quiet still bounded = absurd (still_all _ _ _ falls.disk.failed_writes quiet.disk_writes h)
+quiet_ending print first sizes start commands long (Stopped stop.Script) said new a b c m n ends h falls quiet still bounded = absurd (still_all m n n (omega arith) still h)
+quiet_ending print first sizes start commands long (Stopped stop.Length) said new a b c m n ends h falls quiet still bounded = absurd (bounded h)
+quiet_ending print first sizes start commands long (Stopped stop.Memory) said new a b c m n ends h falls quiet still bounded = inr refl
+quiet_ending print first sizes start commands long Unheard said new a b c m n ends h falls quiet still bounded = absurd (still_all _ _ _ falls.emits quiet.emits h)
 
 -- devices that are opened unless there is no memory or a call fails stop the run, and don't refuse it
 pub record Stops (fault : OpenFault) : Type 0 where
@@ -124,35 +124,35 @@ pub record Stops (fault : OpenFault) : Type 0 where
   pub is : ending_of fault ≡ Stopped why
   pub short : why ≡ stop.Length → ⊥
 
-pub stops : {F : Type 0} (print : F) (printed : List ℕ → Fp) (geo : Geometry) (fault : OpenFault) (new : World) (s : State) → Opens print printed geo (Err fault) new s → Stops fault
-stops print printed geo (open_fault.Memory e) new s h = record { why = stop.Memory; is = refl; short = λ e. absurd (cc) }
-stops print printed geo open_fault.FlashRead new s h = record { why = stop.Flash; is = refl; short = λ e. absurd (cc) }
-stops print printed geo open_fault.FlashWrite new s h = record { why = stop.Flash; is = refl; short = λ e. absurd (cc) }
-stops print printed geo open_fault.DiskWrite new s h = record { why = stop.Disk; is = refl; short = λ e. absurd (cc) }
-stops print printed geo (open_fault.FlashSmall need have) new s h = absurd h
-stops print printed geo (open_fault.DiskSmall need have) new s h = absurd h
-stops print printed geo (open_fault.Super fault) new s h = absurd h
-stops print printed geo open_fault.NoRegion new s h = absurd h
-stops print printed geo (open_fault.Snapshot region at) new s h = absurd h
-stops print printed geo (open_fault.Group region at) new s h = absurd h
-stops print printed geo (open_fault.Worn value) new s h = absurd h
-stops print printed geo open_fault.Version1 new s h = absurd h
+pub stops : {F : Type 0} (room : ℕ) (print : F) (printed : List ℕ → Fp) (geo : Geometry) (fault : OpenFault) (new : World) (s : State) → Opens room print printed geo (Err fault) new s → Stops fault
+stops room print printed geo (open_fault.Memory e) new s h = record { why = stop.Memory; is = refl; short = λ e. absurd (cc) }
+stops room print printed geo open_fault.FlashRead new s h = record { why = stop.Flash; is = refl; short = λ e. absurd (cc) }
+stops room print printed geo open_fault.FlashWrite new s h = record { why = stop.Flash; is = refl; short = λ e. absurd (cc) }
+stops room print printed geo open_fault.DiskWrite new s h = record { why = stop.Disk; is = refl; short = λ e. absurd (cc) }
+stops room print printed geo (open_fault.FlashSmall need have) new s h = absurd h
+stops room print printed geo (open_fault.DiskSmall need have) new s h = absurd h
+stops room print printed geo (open_fault.Super fault) new s h = absurd h
+stops room print printed geo open_fault.NoRegion new s h = absurd h
+stops room print printed geo (open_fault.Snapshot region at) new s h = absurd h
+stops room print printed geo (open_fault.Group region at) new s h = absurd h
+stops room print printed geo (open_fault.Worn value) new s h = absurd h
+stops room print printed geo open_fault.Version1 new s h = absurd h
 
 -- where no call fails such an opening fails for want of memory alone
-pub quiet_fault : {F : Type 0} (print : F) (printed : List ℕ → Fp) (geo : Geometry) (fault : OpenFault) (new : World) (s : State) (a b c : Counts) → Opens print printed geo (Err fault) new s → OpenFaulted fault a b → NeverFalls b c → IsQuiet a c
+pub quiet_fault : {F : Type 0} (room : ℕ) (print : F) (printed : List ℕ → Fp) (geo : Geometry) (fault : OpenFault) (new : World) (s : State) (a b c : Counts) → Opens room print printed geo (Err fault) new s → OpenFaulted fault a b → NeverFalls b c → IsQuiet a c
     → status_of (ending_of fault) ≡ 4
-quiet_fault print printed geo (open_fault.Memory e) new s a b c h rose falls quiet = refl
-quiet_fault print printed geo open_fault.FlashRead new s a b c h rose falls quiet = absurd (still_all _ _ _ falls.flash.failed_reads quiet.flash_reads rose)
-quiet_fault print printed geo open_fault.FlashWrite new s a b c h rose falls quiet = absurd (still_all _ _ _ falls.flash.failed_writes quiet.flash_writes rose)
-quiet_fault print printed geo open_fault.DiskWrite new s a b c h rose falls quiet = absurd (still_all _ _ _ falls.disk.failed_writes quiet.disk_writes rose)
-quiet_fault print printed geo (open_fault.FlashSmall need have) new s a b c h rose falls quiet = absurd h
-quiet_fault print printed geo (open_fault.DiskSmall need have) new s a b c h rose falls quiet = absurd h
-quiet_fault print printed geo (open_fault.Super fault) new s a b c h rose falls quiet = absurd h
-quiet_fault print printed geo open_fault.NoRegion new s a b c h rose falls quiet = absurd h
-quiet_fault print printed geo (open_fault.Snapshot region at) new s a b c h rose falls quiet = absurd h
-quiet_fault print printed geo (open_fault.Group region at) new s a b c h rose falls quiet = absurd h
-quiet_fault print printed geo (open_fault.Worn value) new s a b c h rose falls quiet = absurd h
-quiet_fault print printed geo open_fault.Version1 new s a b c h rose falls quiet = absurd h
+quiet_fault room print printed geo (open_fault.Memory e) new s a b c h rose falls quiet = refl
+quiet_fault room print printed geo open_fault.FlashRead new s a b c h rose falls quiet = absurd (still_all _ _ _ falls.flash.failed_reads quiet.flash_reads rose)
+quiet_fault room print printed geo open_fault.FlashWrite new s a b c h rose falls quiet = absurd (still_all _ _ _ falls.flash.failed_writes quiet.flash_writes rose)
+quiet_fault room print printed geo open_fault.DiskWrite new s a b c h rose falls quiet = absurd (still_all _ _ _ falls.disk.failed_writes quiet.disk_writes rose)
+quiet_fault room print printed geo (open_fault.FlashSmall need have) new s a b c h rose falls quiet = absurd h
+quiet_fault room print printed geo (open_fault.DiskSmall need have) new s a b c h rose falls quiet = absurd h
+quiet_fault room print printed geo (open_fault.Super fault) new s a b c h rose falls quiet = absurd h
+quiet_fault room print printed geo open_fault.NoRegion new s a b c h rose falls quiet = absurd h
+quiet_fault room print printed geo (open_fault.Snapshot region at) new s a b c h rose falls quiet = absurd h
+quiet_fault room print printed geo (open_fault.Group region at) new s a b c h rose falls quiet = absurd h
+quiet_fault room print printed geo (open_fault.Worn value) new s a b c h rose falls quiet = absurd h
+quiet_fault room print printed geo open_fault.Version1 new s a b c h rose falls quiet = absurd h
 
 -- the run was refused, there was no memory, or a device failed
 fault_status : (fault : OpenFault) → (status_of (ending_of fault) ≡ 3) ⊎ ((status_of (ending_of fault) ≡ 4) ⊎ (status_of (ending_of fault) ≡ 7))

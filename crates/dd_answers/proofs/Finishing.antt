@@ -11,7 +11,7 @@ use Rattle.dd_script.specs.Command.{Command}
 use Rattle.dd_loop.specs.Serving.{ServedAll, ServedUpTo}
 use Rattle.dd_loop.proofs.Faults.{counts_none}
 use Rattle.dd_loop.proofs.More.{more_same}
-use Rattle.dd_answers.specs.Answering.{StandsBy}
+use Rattle.dd_answers.specs.Answering.{StandsSince}
 use Rattle.dd_rig.proofs.Falling.{falls_self, frame_self}
 use Rattle.dd_script.specs.declared.reply.Stop.{Stop}
 use Rattle.dd_loop.specs.declared.halt.Halt.{Halt}
@@ -44,10 +44,10 @@ unserved listed print sizes StandFor why start commands new before after stands 
 }
 
 -- the loop ended so
-pub ends_so : (print : List ℕ → Fp) (sizes : Sizes) (start : State) (commands : List Command) (served : Result Bool Halt) (said : List ℕ) (new : World) (before after : Counts)
-    → IfOk served (λ faulted. ServedAll print sizes (StandsBy print) start commands (LinesPaid (length start.addresses) before after) (HasArrayBehind sizes new) faulted said new)
-    → IfErr served (λ halt. ServedUpTo print sizes (StandsBy print) start commands (LinesPaid (length start.addresses) before after) halt said new)
-    → LoopEnds print sizes start commands (served_ending served) said new before after
-ends_so print sizes start commands (Ok faulted) said new before after all some = all
-ends_so print sizes start commands (Err Output) said new before after all some = some
-ends_so print sizes start commands (Err (Stopped why)) said new before after all some = some
+pub ends_so : (print : List ℕ → Fp) (first : World) (sizes : Sizes) (start : State) (commands : List Command) (served : Result Bool Halt) (said : List ℕ) (new : World) (before after : Counts)
+    → IfOk served (λ faulted. ServedAll print sizes (StandsSince print first) start commands (LinesPaid (length start.addresses) before after) (HasArrayBehind sizes new) faulted said new)
+    → IfErr served (λ halt. ServedUpTo print sizes (StandsSince print first) start commands (LinesPaid (length start.addresses) before after) halt said new)
+    → LoopEnds print first sizes start commands (served_ending served) said new before after
+ends_so print first sizes start commands (Ok faulted) said new before after all some = all
+ends_so print first sizes start commands (Err Output) said new before after all some = some
+ends_so print first sizes start commands (Err (Stopped why)) said new before after all some = some

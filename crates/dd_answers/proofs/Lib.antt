@@ -1,4 +1,6 @@
+pub mod Again
 pub mod Costs
+pub mod Pacing
 pub mod Spent
 pub mod Pieces
 pub mod Listed

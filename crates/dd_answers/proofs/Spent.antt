@@ -16,6 +16,7 @@ use Rattle.dd_store.specs.Keeping.{StoreView, Kept}
 use Rattle.dd_store.specs.Meaning.{Means, sizes_of}
 use Rattle.dd_loop.specs.Answering.{Pays}
 use Rattle.dd_loop.specs.Standing.{IsHeld}
+use Rattle.dd_answers.specs.Answering.{KeptSince}
 use Rattle.dd_answers.specs.Costs.{CostsLines, HasArray, HasArrayBehind}
 use Rattle.dd_answers.specs.Serving.{LinesPaid}
 
@@ -32,8 +33,8 @@ spent_by listed old new before after few lines more paid = (
 )
 
 -- as many addresses are listed as there are rows
-pub listed_rows : (print : List ℕ → Fp) (store : StoreView) (world : World) (c s : State) → Kept print store world c s → length store.table.a ≡ length s.addresses
-listed_rows print store world c s kept = sym (length-map store.table.a entry_of) ∙ ap length (sym kept.holds.means.lists.addresses)
+pub listed_rows : (room : ℕ) (print : List ℕ → Fp) (store : StoreView) (world : World) (c s : State) → Kept room print store world c s → length store.table.a ≡ length s.addresses
+listed_rows room print store world c s kept = sym (length-map store.table.a entry_of) ∙ ap length (sym kept.holds.means.lists.addresses)
 
 -- the disk has the array where no address is dirty
 array_held : (geo : Geometry) (print : List ℕ → Fp) (flash disk : List ℕ) (table : Table) (count : ℕ) (s : State) → Means print geo flash disk table count s → ((address : ℕ) → is_dirty_at address table.a ≡ false)
@@ -46,14 +47,14 @@ array_held geo print flash disk table count s means none =
     array_block geo.block geo.blocks disk address below ∙ sym (means.clean address below (none address)))
 
 -- and so behind lines that leave none dirty
-pub drained_by : (print : List ℕ → Fp) (old new : StoreView) (world : World) (before after : Counts) → sizes_of new.journal.geo ≡ sizes_of old.journal.geo → length old.dirty ≤ old.journal.geo.acap
-    → (new.dirty ≡ [] → (address : ℕ) → is_dirty_at address new.table.a ≡ false) → (lines : List (List ℕ)) (s : State) → Pays (CostsLines old new) before after lines 0 → IsHeld (λ committed held. Kept print new world committed held) s
+pub drained_by : (print : List ℕ → Fp) (old new : StoreView) (first world : World) (before after : Counts) → sizes_of new.journal.geo ≡ sizes_of old.journal.geo → length old.dirty ≤ old.journal.geo.acap
+    → (new.dirty ≡ [] → (address : ℕ) → is_dirty_at address new.table.a ≡ false) → (lines : List (List ℕ)) (s : State) → Pays (CostsLines old new) before after lines 0 → IsHeld (λ committed held. KeptSince print new first world committed held) s
     → HasArrayBehind (sizes_of old.journal.geo) world lines s
-drained_by print old new world before after same few known lines s paid held = λ none.
+drained_by print old new first world before after same few known lines s paid held = λ none.
     let acap : ℕ = old.journal.geo.acap in
     let end : length new.dirty ≤ dirty_after acap (length old.dirty) lines = paid.0.dirty refl few in
     let empty : new.dirty ≡ [] = nil_from_length new.dirty (omega (arith, end, dirty_more acap (length old.dirty) acap lines few, none)) in
-    subst (λ (sizes : Sizes). HasArray sizes world s) same (array_held new.journal.geo print world.flash.shown world.disk.shown new.table new.count s held.1.holds.means (known empty))
+    subst (λ (sizes : Sizes). HasArray sizes world s) same (array_held new.journal.geo print world.flash.shown world.disk.shown new.table new.count s held.1.2.holds.means (known empty))
 
 pub ok_map : {T E : Type 0} (result : Result T E) (P Q : T → Type 0) → ((x : T) → P x → Q x) → IfOk result P → IfOk result Q
 ok_map (Ok x) P Q f h = f x h

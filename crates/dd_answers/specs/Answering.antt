@@ -1,16 +1,20 @@
 -- What a store answers to lines.
-use Rattle.std.specs.Prelude.{◌≡◌, ◌+◌, ◌*◌, ◌<◌, ◌≤◌, ◌^◌, ℕ, true, false, List, length, take, Result, Ok, Err, IsTrue}
+use Rattle.std.specs.Prelude.{◌≡◌, ◌+◌, ◌-◌, ◌*◌, ◌<◌, ◌≤◌, ◌^◌, ℕ, true, false, List, length, take, Result, Ok, Err, IsTrue}
 use Rattle.dd_block.specs.declared.print.Fp.{Fp}
 use Rattle.dd_rig.specs.declared.device.Dev.{Dev}
 use Rattle.dd_rig.specs.declared.device.Dev.TheVariants as dev
+use Rattle.dd_block.specs.declared.geometry.Geometry.{Geometry}
+use Rattle.dd_rig.specs.World.{World, shown}
 use Rattle.dd_layout.specs.Layout.{flash_need, disk_need}
+use Rattle.dd_record.specs.Table.{Table}
+use Rattle.dd_journal.specs.Regions.{Says}
 use Rattle.dd_model.specs.State.{State}
 use Rattle.dd_script.specs.declared.reply.Stop.TheVariants as stop
 use Rattle.dd_script.specs.Text.{ended, fault_text}
 use Rattle.dd_store.specs.declared.fault.StoreFault.{StoreFault}
 use Rattle.dd_store.specs.declared.fault.StoreFault.TheVariants.{FlashRead, DiskRead, FlashWrite, DiskWrite}
-use Rattle.dd_store.specs.Keeping.{StoreView}
-use Rattle.dd_store.specs.Meaning.{Stands, sizes_of}
+use Rattle.dd_store.specs.Keeping.{StoreView, Kept}
+use Rattle.dd_store.specs.Meaning.{Stands, dirty_rows, sizes_of}
 use Rattle.dd_loop.specs.declared.cache.Written.{Written}
 use Rattle.dd_loop.specs.declared.halt.Halt.{Halt}
 use Rattle.dd_loop.specs.declared.halt.Halt.TheVariants.{Stopped}
@@ -21,8 +25,24 @@ abbrev pub store_terms : (List ℕ → Fp) → StoreView → Terms
 store_terms print store = record { print = print; sizes = sizes_of store.journal.geo; reads_only = false }
 
 -- the devices stand for a state by these fingerprints
-abbrev pub StandsBy : (List ℕ → Fp) → (flash disk : List ℕ) → State → Type 0
-StandsBy print flash disk s = Stands print flash disk s
+abbrev pub StandsBy : (room : ℕ) → (List ℕ → Fp) → (flash disk : List ℕ) → State → Type 0
+StandsBy room print flash disk s = Stands room print flash disk s
+
+-- how far the epoch that a flash spells is ahead of what its count explains
+pub record IsPaceOf (room : ℕ) (flash : List ℕ) : Type 0 where
+  pub geo : Geometry
+  pub table : Table
+  pub count : ℕ
+  pub says : Says flash geo 2 table count
+  pub is : room ≡ says.reading.epoch + 2 * dirty_rows table.a - 3 * count
+
+-- a store holds a state and has committed another, and its epoch keeps the pace of the world in which the run began
+abbrev pub KeptSince : (List ℕ → Fp) → StoreView → (first now : World) → (committed held : State) → Type 0
+KeptSince print store first now committed held = (room : ℕ) × IsPaceOf room (shown dev.Flash first) × Kept room print store now committed held
+
+-- the devices stand for a state, and their epoch keeps that pace
+abbrev pub StandsSince : (List ℕ → Fp) → (first : World) → (flash disk : List ℕ) → State → Type 0
+StandsSince print first flash disk s = (room : ℕ) × IsPaceOf room (shown dev.Flash first) × StandsBy room print flash disk s
 
 -- so many lines more may be answered: the store is up, its numbers leave room for them, and the devices are large enough
 pub record MayAnswer (store : StoreView) (lines : ℕ) (size : Dev → ℕ) : Type 0 where

@@ -21,7 +21,7 @@ use Rattle.dd_loop.specs.Saying.{EndsIn}
 use Rattle.dd_loop.specs.Serving.{ServedAll, ServedUpTo}
 use Rattle.dd_loop.specs.declared.halt.Halt.TheVariants as halts
 use Rattle.dd_loop.specs.declared.halt.Halt.{Halt}
-use Rattle.dd_answers.specs.Answering.{StandsBy}
+use Rattle.dd_answers.specs.Answering.{StandsSince}
 use Rattle.dd_answers.specs.Costs.{CallsLittle, HasArrayBehind, Spends}
 
 -- a script has fewer than 2^40 bytes, or a whole line q among so many
@@ -94,10 +94,10 @@ IsServed ending = ⊥
 abbrev pub LinesPaid : (listed : ℕ) → (before after : Counts) → List (List ℕ) → ℕ → Type 0
 LinesPaid listed before after lines more = Pays (Spends listed) before after lines more
 
--- what was said and what is left where the loop over the lines of a script ended so, over a store that held a state
-module _ (print : List ℕ → Fp) (sizes : Sizes) (start : State) (commands : List Command) where
+-- what was said and what is left where the loop over the lines of a script ended so, over a store that held a state in that world
+module _ (print : List ℕ → Fp) (first : World) (sizes : Sizes) (start : State) (commands : List Command) where
   abbrev pub LoopEnds : Ending → (said : List ℕ) → (new : World) → (before after : Counts) → Type 0
-  LoopEnds (Served faulted) said new before after = ServedAll print sizes (StandsBy print) start commands (LinesPaid (length start.addresses) before after) (HasArrayBehind sizes new) faulted said new
+  LoopEnds (Served faulted) said new before after = ServedAll print sizes (StandsSince print first) start commands (LinesPaid (length start.addresses) before after) (HasArrayBehind sizes new) faulted said new
   LoopEnds (Refused why) said new before after = ⊥
-  LoopEnds (Stopped why) said new before after = ServedUpTo print sizes (StandsBy print) start commands (LinesPaid (length start.addresses) before after) (halts.Stopped why) said new
-  LoopEnds Unheard said new before after = ServedUpTo print sizes (StandsBy print) start commands (LinesPaid (length start.addresses) before after) halts.Output said new
+  LoopEnds (Stopped why) said new before after = ServedUpTo print sizes (StandsSince print first) start commands (LinesPaid (length start.addresses) before after) (halts.Stopped why) said new
+  LoopEnds Unheard said new before after = ServedUpTo print sizes (StandsSince print first) start commands (LinesPaid (length start.addresses) before after) halts.Output said new

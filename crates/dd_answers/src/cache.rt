@@ -16,8 +16,7 @@ pub struct StoreCache<F: Fingerprint, L: Lists> {
 
 impl<F: Fingerprint, L: Lists, R: Rig> Cache<R> for StoreCache<F, L> {
     ghost use Rattle.std.specs.Prelude.{◌≡◌};
-    ghost use Rattle.dd_store.specs.Keeping.{Kept};
-    ghost use Rattle.dd_answers.specs.Answering.{store_terms, MayAnswer, StandsBy};
+    ghost use Rattle.dd_answers.specs.Answering.{store_terms, MayAnswer, KeptSince, StandsSince};
     ghost use Rattle.dd_answers.specs.Costs.{CostsLines};
     ghost use Rattle.dd_answers.specs.Laws.{kept_unsaid, answers_fewer, costs_none, costs_lists, costs_both, costs_idle, costs_cut, costs_begun};
 
@@ -25,9 +24,9 @@ impl<F: Fingerprint, L: Lists, R: Rig> Cache<R> for StoreCache<F, L> {
 
     ghost ready = { λ c lines size. MayAnswer c.store.store lines size };
 
-    ghost kept = { λ c first now committed held. Kept (F.printed c.store.print) c.store.store now committed held };
+    ghost kept = { λ c first now committed held. KeptSince (F.printed c.store.print) c.store.store first now committed held };
 
-    ghost stands = { λ terms first flash disk s. StandsBy terms.print flash disk s };
+    ghost stands = { λ terms first flash disk s. StandsSince terms.print first flash disk s };
 
     ghost costs = { λ old new lines more before after. CostsLines old.store.store new.store.store lines more before after };
 
@@ -60,9 +59,9 @@ impl<F: Fingerprint, L: Lists, R: Rig> Cache<R> for StoreCache<F, L> {
         say_rows(self.store.lists(), rig, text)
     }
 
-    ghost stood = { λ c first now committed held kept. kept.stands };
+    ghost stood = { λ c first now committed held kept flash disk flash_image disk_image. (kept.0, kept.1, kept.2.stands flash disk flash_image disk_image) };
 
-    ghost unsaid = { λ c first old new committed held flash disk kept. kept_unsaid (F.printed c.store.print) c.store.store old new committed held flash disk kept };
+    ghost unsaid = { λ c first old new committed held flash disk kept. (kept.0, kept.1, kept_unsaid kept.0 (F.printed c.store.print) c.store.store old new committed held flash disk kept.2) };
 
     ghost fewer = { λ c n m size le ready. answers_fewer c.store.store n m size le ready };
 

@@ -9,7 +9,7 @@ ghost use Rattle.dd_recover.specs.Opening.{IsFirstFault};
 ghost use Rattle.dd_script.specs.Output.{dialect_of};
 ghost use Rattle.dd_script.specs.Reading.{IsTakenTo, script_limit};
 ghost use Rattle.dd_script.specs.Script.{commands_of};
-ghost use Rattle.dd_store.specs.Keeping.{Kept};
+ghost use Rattle.dd_answers.specs.Answering.{KeptSince};
 ghost use Rattle.dd_store.specs.Meaning.{sizes_of};
 ghost use Rattle.dd_loop.specs.Ending.{SaysEnding};
 ghost use Rattle.dd_loop.specs.Saying.{IsIdle};
@@ -85,13 +85,13 @@ fn end_store<F: Fingerprint, L: Lists, R: Rig, S: Source>(
 ) -> u8
     requires ready { MayAnswer store.store (script_limit + 1) (R.device_size rig.old) }
     requires few { length store.store.dirty ≤ store.store.journal.geo.acap }
-    ensures crash { R.tells → S.tells → (start : State) → Kept (F.printed store.print) store.store (R.world rig.old) start start
-        → Elapses (R.clock rig.old) (R.clock rig.new) (Headline (F.printed store.print) (sizes_of store.store.journal.geo) start (commands_of (dialect_of (sizes_of store.store.journal.geo)) (S.rest source.old)) (R.world rig.old).said) }
-    ensures left { R.tells → S.tells → (start : State) → Kept (F.printed store.print) store.store (R.world rig.old) start start
-        → (o : Outcome) → MayLeave (R.world rig.new) o → Headline (F.printed store.print) (sizes_of store.store.journal.geo) start (commands_of (dialect_of (sizes_of store.store.journal.geo)) (S.rest source.old)) (R.world rig.old).said o }
-    ensures serves { R.tells → S.tells → (start : State) → Kept (F.printed store.print) store.store (R.world rig.old) start start
+    ensures crash { R.tells → S.tells → (start : State) (kept : KeptSince (F.printed store.print) store.store (R.world rig.old) (R.world rig.old) start start)
+        → Elapses (R.clock rig.old) (R.clock rig.new) (Headline kept.0 (F.printed store.print) (sizes_of store.store.journal.geo) start (commands_of (dialect_of (sizes_of store.store.journal.geo)) (S.rest source.old)) (R.world rig.old).said) }
+    ensures left { R.tells → S.tells → (start : State) (kept : KeptSince (F.printed store.print) store.store (R.world rig.old) (R.world rig.old) start start)
+        → (o : Outcome) → MayLeave (R.world rig.new) o → Headline kept.0 (F.printed store.print) (sizes_of store.store.journal.geo) start (commands_of (dialect_of (sizes_of store.store.journal.geo)) (S.rest source.old)) (R.world rig.old).said o }
+    ensures serves { R.tells → S.tells → (start : State) → KeptSince (F.printed store.print) store.store (R.world rig.old) (R.world rig.old) start start
         → Serves (F.printed store.print) (sizes_of store.store.journal.geo) start (S.rest source.old) 0 result (R.world rig.old) (R.world rig.new) (R.counts rig.old) (R.counts rig.new) }
-    ensures quiet { R.tells → S.tells → (start : State) → Kept (F.printed store.print) store.store (R.world rig.old) start start
+    ensures quiet { R.tells → S.tells → (start : State) → KeptSince (F.printed store.print) store.store (R.world rig.old) (R.world rig.old) start start
         → IsQuiet (R.counts rig.old) (R.counts rig.new) → IsStill (S.failures source.old) (S.failures source.new) → IsBounded (sizes_of store.store.journal.geo) (S.rest source.old) → (result ≡ 0) ⊎ (result ≡ 4) }
     ensures caused { EndsForCause ⊥ (S.tells → IsBounded (sizes_of store.store.journal.geo) (S.rest source.old) → ⊥) (λ ending. R.tells → SaysEnding ending (R.counts rig.old) (R.counts rig.new) (R.world rig.old) (R.world rig.new)) result (R.counts rig.old) (R.counts rig.new) (S.failures source.old) (S.failures source.new) }
     ensures taken { S.tells → result ≤ 1 → IsTakenTo (dialect_of (sizes_of store.store.journal.geo)) (S.rest source.old) (S.rest source.new) }

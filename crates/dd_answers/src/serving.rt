@@ -8,14 +8,13 @@ ghost use Rattle.dd_script.specs.Output.{dialect_of};
 ghost use Rattle.dd_script.specs.Reading.{IsTakenTo, script_limit};
 ghost use Rattle.dd_script.specs.Script.{commands_of};
 ghost use Rattle.dd_script.specs.declared.reply.Stop.TheVariants.{Memory};
-ghost use Rattle.dd_store.specs.Keeping.{Kept};
 ghost use Rattle.dd_store.specs.Meaning.{sizes_of};
 ghost use Rattle.dd_loop.specs.declared.ending.Ending.TheVariants.{Stopped};
 ghost use Rattle.dd_loop.specs.Halting.{Halts};
 ghost use Rattle.dd_loop.specs.Saying.{SaysMore};
 ghost use Rattle.dd_loop.specs.Serving.{ServedAll, ServedUpTo};
 ghost use Rattle.dd_loop.specs.Standing.{StandForPrefix};
-ghost use Rattle.dd_answers.specs.Answering.{MayAnswer, StandsBy};
+ghost use Rattle.dd_answers.specs.Answering.{MayAnswer, KeptSince, StandsSince};
 ghost use Rattle.dd_answers.specs.Costs.{HasArrayBehind};
 ghost use Rattle.dd_answers.specs.Serving.{Caused, LinesPaid, IsBounded, IsServed, LoopEnds, served_ending};
 
@@ -39,11 +38,11 @@ pub fn serve_store<F: Fingerprint, L: Lists, R: Rig, S: Source>(
 ) -> Ending
     requires ready { MayAnswer store.store (script_limit + 1) (R.device_size rig.old) }
     requires few { length store.store.dirty ≤ store.store.journal.geo.acap }
-    ensures crash { R.tells → S.tells → (start : State) → Kept (F.printed store.print) store.store (R.world rig.old) start start
-        → Elapses (R.clock rig.old) (R.clock rig.new) (StandForPrefix (StandsBy (F.printed store.print)) (F.printed store.print) (sizes_of store.store.journal.geo) start
+    ensures crash { R.tells → S.tells → (start : State) → KeptSince (F.printed store.print) store.store (R.world rig.old) (R.world rig.old) start start
+        → Elapses (R.clock rig.old) (R.clock rig.new) (StandForPrefix (StandsSince (F.printed store.print) (R.world rig.old)) (F.printed store.print) (sizes_of store.store.journal.geo) start
         (commands_of (dialect_of (sizes_of store.store.journal.geo)) (S.rest source.old)) (R.world rig.old).said) }
-    ensures ends { R.tells → S.tells → (start : State) → Kept (F.printed store.print) store.store (R.world rig.old) start start
-        → LoopEnds (F.printed store.print) (sizes_of store.store.journal.geo) start (commands_of (dialect_of (sizes_of store.store.journal.geo)) (S.rest source.old)) result (R.world rig.old).said (R.world rig.new) (R.counts rig.old) (R.counts rig.new) }
+    ensures ends { R.tells → S.tells → (start : State) → KeptSince (F.printed store.print) store.store (R.world rig.old) (R.world rig.old) start start
+        → LoopEnds (F.printed store.print) (R.world rig.old) (sizes_of store.store.journal.geo) start (commands_of (dialect_of (sizes_of store.store.journal.geo)) (S.rest source.old)) result (R.world rig.old).said (R.world rig.new) (R.counts rig.old) (R.counts rig.new) }
     ensures caused { Caused ⊥ (S.tells → IsBounded (sizes_of store.store.journal.geo) (S.rest source.old) → ⊥) result (R.counts rig.old) (R.counts rig.new) (S.failures source.old) (S.failures source.new) }
     ensures taken { S.tells → IsServed result → IsTakenTo (dialect_of (sizes_of store.store.journal.geo)) (S.rest source.old) (S.rest source.new) × IsBounded (sizes_of store.store.journal.geo) (S.rest source.old) }
     ensures untaken { result ≡ Stopped Memory → (source.new ≡ source.old) × (rig.new ≡ rig.old) }
@@ -79,14 +78,14 @@ fn serve_script<F: Fingerprint, L: Lists, R: Rig, S: Source>(
 ) -> Result<Result<bool, Halt>, AllocError>
     requires ready { MayAnswer store.store (script_limit + 1) (R.device_size rig.old) }
     requires few { length store.store.dirty ≤ store.store.journal.geo.acap }
-    ensures crash { R.tells → S.tells → (start : State) → Kept (F.printed store.print) store.store (R.world rig.old) start start
-        → Elapses (R.clock rig.old) (R.clock rig.new) (StandForPrefix (StandsBy (F.printed store.print)) (F.printed store.print) (sizes_of store.store.journal.geo) start
+    ensures crash { R.tells → S.tells → (start : State) → KeptSince (F.printed store.print) store.store (R.world rig.old) (R.world rig.old) start start
+        → Elapses (R.clock rig.old) (R.clock rig.new) (StandForPrefix (StandsSince (F.printed store.print) (R.world rig.old)) (F.printed store.print) (sizes_of store.store.journal.geo) start
         (commands_of (dialect_of (sizes_of store.store.journal.geo)) (S.rest source.old)) (R.world rig.old).said) }
-    ensures all { R.tells → S.tells → (start : State) → Kept (F.printed store.print) store.store (R.world rig.old) start start
-        → IfOk result (λ served. IfOk served (λ faulted. ServedAll (F.printed store.print) (sizes_of store.store.journal.geo) (StandsBy (F.printed store.print)) start
+    ensures all { R.tells → S.tells → (start : State) → KeptSince (F.printed store.print) store.store (R.world rig.old) (R.world rig.old) start start
+        → IfOk result (λ served. IfOk served (λ faulted. ServedAll (F.printed store.print) (sizes_of store.store.journal.geo) (StandsSince (F.printed store.print) (R.world rig.old)) start
         (commands_of (dialect_of (sizes_of store.store.journal.geo)) (S.rest source.old)) (LinesPaid (length start.addresses) (R.counts rig.old) (R.counts rig.new)) (HasArrayBehind (sizes_of store.store.journal.geo) (R.world rig.new)) faulted (R.world rig.old).said (R.world rig.new))) }
-    ensures some { R.tells → S.tells → (start : State) → Kept (F.printed store.print) store.store (R.world rig.old) start start
-        → IfOk result (λ served. IfErr served (λ halt. ServedUpTo (F.printed store.print) (sizes_of store.store.journal.geo) (StandsBy (F.printed store.print)) start
+    ensures some { R.tells → S.tells → (start : State) → KeptSince (F.printed store.print) store.store (R.world rig.old) (R.world rig.old) start start
+        → IfOk result (λ served. IfErr served (λ halt. ServedUpTo (F.printed store.print) (sizes_of store.store.journal.geo) (StandsSince (F.printed store.print) (R.world rig.old)) start
         (commands_of (dialect_of (sizes_of store.store.journal.geo)) (S.rest source.old)) (LinesPaid (length start.addresses) (R.counts rig.old) (R.counts rig.new)) halt (R.world rig.old).said (R.world rig.new))) }
     ensures taken { S.tells → IfOk result (λ served. OnOk served (IsTakenTo (dialect_of (sizes_of store.store.journal.geo)) (S.rest source.old) (S.rest source.new) × IsBounded (sizes_of store.store.journal.geo) (S.rest source.old))) }
     ensures halt { IfOk result (λ served. IfErr served (λ halt. Halts (λ device. Unit {0}) (Rose (S.failures source.old) (S.failures source.new))

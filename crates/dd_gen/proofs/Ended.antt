@@ -38,9 +38,9 @@ use Rattle.dd_gen.proofs.Fronts.{acks_front}
 use Rattle.dd_gen.proofs.Generated.{count_grows}
 use Rattle.dd_gen.proofs.Ran.{within_either, all_within}
 
-module _ (print : List ℕ → Fp) (sizes : Sizes) (start : State) (seed count : ℕ) (said : List ℕ) where
+module _ (room : ℕ) (print : List ℕ → Fp) (sizes : Sizes) (start : State) (seed count : ℕ) (said : List ℕ) where
   -- nothing was said
-  pub leaves_unsaid : (o : Outcome) → StandsWithin print sizes start seed count o.flash o.disk → o.out ≡ said → LeavesGenerated print sizes start seed count said o
+  pub leaves_unsaid : (o : Outcome) → StandsWithin room print sizes start seed count o.flash o.disk → o.out ≡ said → LeavesGenerated room print sizes start seed count said o
   leaves_unsaid o h is = record {
     output = [];
     out = is ∙ sym (append-nil said);
@@ -52,7 +52,7 @@ module _ (print : List ℕ → Fp) (sizes : Sizes) (start : State) (seed count :
   }
 
   -- a part of the line that stops the run was said
-  pub leaves_stopped : (why : Stop) (n : ℕ) (o : Outcome) → StandsWithin print sizes start seed count o.flash o.disk → o.out ≡ said ++ take n (ended (stop_text why)) → LeavesGenerated print sizes start seed count said o
+  pub leaves_stopped : (why : Stop) (n : ℕ) (o : Outcome) → StandsWithin room print sizes start seed count o.flash o.disk → o.out ≡ said ++ take n (ended (stop_text why)) → LeavesGenerated room print sizes start seed count said o
   leaves_stopped why n o h is =
       let line : List ℕ = ended (stop_text why) in
       let whole : line ≡ take n line ++ drop n line = sym (take-append-drop n line) in
@@ -71,8 +71,8 @@ module _ (print : List ℕ → Fp) (sizes : Sizes) (start : State) (seed count :
       }
 
   -- a part of both last lines was said, or all of them
-  pub leaves_said : (o : Outcome) → (state_at print sizes start seed count).count < 2 ^ 64 → Stands print o.flash o.disk (state_at print sizes start seed count) → SaysFront (last_lines print sizes start seed count) said o.out
-      → LeavesGenerated print sizes start seed count said o
+  pub leaves_said : (o : Outcome) → (state_at print sizes start seed count).count < 2 ^ 64 → Stands room print o.flash o.disk (state_at print sizes start seed count) → SaysFront (last_lines print sizes start seed count) said o.out
+      → LeavesGenerated room print sizes start seed count said o
   leaves_said o fits stands f =
       let sums = sums_at print sizes start seed count in
       let all : ℕ = (state_at print sizes start seed count).count in
@@ -92,15 +92,15 @@ module _ (print : List ℕ → Fp) (sizes : Sizes) (start : State) (seed count :
       }
 
   -- a crash within the last line
-  pub last_within : (ending : Ending) (middle : World) → RunEnds print sizes start seed count ending said middle → (o : Outcome) → WithinLast (ending_line ending) middle o → LeavesGenerated print sizes start seed count said o
+  pub last_within : (ending : Ending) (middle : World) → RunEnds room print sizes start seed count ending said middle → (o : Outcome) → WithinLast (ending_line ending) middle o → LeavesGenerated room print sizes start seed count said o
   last_within (Served faulted) middle h o w = absurd w
   last_within (Refused why) middle h o w = absurd h
   last_within (Stopped why) middle h o w = leaves_stopped why w.0 o (h.1 o.flash o.disk w.1.flash w.1.disk) (w.1.out ∙ ap (λ (l : List ℕ). l ++ take w.0 (ended (stop_text why))) h.0)
   last_within Unheard middle h o w = absurd w
 
   -- and behind it
-  pub last_behind : (ending : Ending) (middle new : World) (between after : Counts) → RunEnds print sizes start seed count ending said middle → SaysLast (ending_line ending) between after middle new
-      → new.flash ≡ middle.flash → new.disk ≡ middle.disk → (o : Outcome) → MayLeave new o → LeavesGenerated print sizes start seed count said o
+  pub last_behind : (ending : Ending) (middle new : World) (between after : Counts) → RunEnds room print sizes start seed count ending said middle → SaysLast (ending_line ending) between after middle new
+      → new.flash ≡ middle.flash → new.disk ≡ middle.disk → (o : Outcome) → MayLeave new o → LeavesGenerated room print sizes start seed count said o
   last_behind (Served faulted) middle new between after h says flash disk o may =
       h.1 o (record { flash = subst (λ (d : Device). IsImage d o.flash) flash may.flash; disk = subst (λ (d : Device). IsImage d o.disk) disk may.disk; out = may.out ∙ says })
   last_behind (Refused why) middle new between after h says flash disk o may = absurd h
@@ -112,39 +112,39 @@ module _ (print : List ℕ → Fp) (sizes : Sizes) (start : State) (seed count :
       h.1 o (record { flash = subst (λ (d : Device). IsImage d o.flash) flash may.flash; disk = subst (λ (d : Device). IsImage d o.disk) disk may.disk; out = may.out ∙ says })
 
   -- within the last commit and behind it
-  pub leaves_within : (sums : Sums) → sums ≡ sums_at print sizes start seed count → (store : StoreView) (world : World) (h : Holding print sizes start seed count store world) → (state_at print sizes start seed count).count < 2 ^ 64
-      → (o : Outcome) → WithinCommit print (state_at print sizes start seed h.k) (state_at print sizes start seed count) sums said o → LeavesGenerated print sizes start seed count said o
-  leaves_within sums is store world h fits o (inl before) = leaves_unsaid o (within_either print sizes start seed count count (omega arith) store world h o.flash o.disk before.0) before.1
+  pub leaves_within : (sums : Sums) → sums ≡ sums_at print sizes start seed count → (store : StoreView) (world : World) (h : Holding room print sizes start seed count store world) → (state_at print sizes start seed count).count < 2 ^ 64
+      → (o : Outcome) → WithinCommit room print (state_at print sizes start seed h.k) (state_at print sizes start seed count) sums said o → LeavesGenerated room print sizes start seed count said o
+  leaves_within sums is store world h fits o (inl before) = leaves_unsaid o (within_either room print sizes start seed count count (omega arith) store world h o.flash o.disk before.0) before.1
   leaves_within sums is store world h fits o (inr behind) =
       leaves_said o fits behind.0 (subst (λ (x : Sums). SaysFront (both_lines x (state_at print sizes start seed count).count) said o.out) is behind.1)
 
   -- where both lines are said, or a part of them
-  all_leave : (new : World) → (state_at print sizes start seed count).count < 2 ^ 64 → AllStand (StandsBy print) new (state_at print sizes start seed count) → SaysFront (last_lines print sizes start seed count) said new.said
-      → (o : Outcome) → MayLeave new o → LeavesGenerated print sizes start seed count said o
+  all_leave : (new : World) → (state_at print sizes start seed count).count < 2 ^ 64 → AllStand (StandsBy room print) new (state_at print sizes start seed count) → SaysFront (last_lines print sizes start seed count) said new.said
+      → (o : Outcome) → MayLeave new o → LeavesGenerated room print sizes start seed count said o
   all_leave new fits stands f o may = leaves_said o fits (stands o.flash o.disk may.flash may.disk) (f.0, may.out ∙ f.1, f.2)
 
   whole_front : (text : List ℕ) → IsFront text text
   whole_front text = ([], sym (append-nil text))
 
-  run_ends : (store : StoreView) (world : World) (h : Holding print sizes start seed count store world) → (state_at print sizes start seed count).count < 2 ^ 64 → (ending : Ending) (new : World)
-      → CommitEnds print (state_at print sizes start seed h.k) (state_at print sizes start seed count) (sums_at print sizes start seed count) ending said new → RunEnds print sizes start seed count ending said new
+  run_ends : (store : StoreView) (world : World) (h : Holding room print sizes start seed count store world) → (state_at print sizes start seed count).count < 2 ^ 64 → (ending : Ending) (new : World)
+      → CommitEnds room print (state_at print sizes start seed h.k) (state_at print sizes start seed count) (sums_at print sizes start seed count) ending said new → RunEnds room print sizes start seed count ending said new
   run_ends store world h fits (Served faulted) new ends = (ends.1, all_leave new fits ends.0 (last_lines print sizes start seed count, ends.1.1, whole_front (last_lines print sizes start seed count)))
   run_ends store world h fits (Refused why) new ends = absurd ends.1
-  run_ends store world h fits (Stopped why) new ends = (ends.1, all_within print sizes start seed count count (omega arith) store world new h ends.0)
+  run_ends store world h fits (Stopped why) new ends = (ends.1, all_within room print sizes start seed count count (omega arith) store world new h ends.0)
   run_ends store world h fits Unheard new ends = (ends.1, all_leave new fits ends.0 ends.1)
 
-  pub leaves_behind : (sums : Sums) → sums ≡ sums_at print sizes start seed count → (store : StoreView) (world : World) (h : Holding print sizes start seed count store world) → (state_at print sizes start seed count).count < 2 ^ 64 → (ending : Ending) (new : World)
-      → CommitEnds print (state_at print sizes start seed h.k) (state_at print sizes start seed count) sums ending said new → RunEnds print sizes start seed count ending said new
+  pub leaves_behind : (sums : Sums) → sums ≡ sums_at print sizes start seed count → (store : StoreView) (world : World) (h : Holding room print sizes start seed count store world) → (state_at print sizes start seed count).count < 2 ^ 64 → (ending : Ending) (new : World)
+      → CommitEnds room print (state_at print sizes start seed h.k) (state_at print sizes start seed count) sums ending said new → RunEnds room print sizes start seed count ending said new
   leaves_behind sums is store world h fits ending new ends =
-      run_ends store world h fits ending new (subst (λ (x : Sums). CommitEnds print (state_at print sizes start seed h.k) (state_at print sizes start seed count) x ending said new) is ends)
+      run_ends store world h fits ending new (subst (λ (x : Sums). CommitEnds room print (state_at print sizes start seed h.k) (state_at print sizes start seed count) x ending said new) is ends)
 
 -- what was said in all
-pub last_tells : (print : List ℕ → Fp) (sizes : Sizes) (start : State) (seed count : ℕ) (ending : Ending) (old middle new : World) (before between after : Counts) → NeverFalls before between
-    → RunEnds print sizes start seed count ending old.said middle → SaysLast (ending_line ending) between after middle new → Tells print sizes start seed count ending before after old new
-last_tells print sizes start seed count (Served faulted) old middle new before between after falls h says = says ∙ h.0.1
-last_tells print sizes start seed count (Refused why) old middle new before between after falls h says = absurd h
-last_tells print sizes start seed count (Stopped why) old middle new before between after falls h says = alone_since (stop_text why) before between after old middle new falls h.0 says
-last_tells print sizes start seed count Unheard old middle new before between after falls h says = (h.0.0, says ∙ h.0.1, h.0.2)
+pub last_tells : (room : ℕ) (print : List ℕ → Fp) (sizes : Sizes) (start : State) (seed count : ℕ) (ending : Ending) (old middle new : World) (before between after : Counts) → NeverFalls before between
+    → RunEnds room print sizes start seed count ending old.said middle → SaysLast (ending_line ending) between after middle new → Tells print sizes start seed count ending before after old new
+last_tells room print sizes start seed count (Served faulted) old middle new before between after falls h says = says ∙ h.0.1
+last_tells room print sizes start seed count (Refused why) old middle new before between after falls h says = absurd h
+last_tells room print sizes start seed count (Stopped why) old middle new before between after falls h says = alone_since (stop_text why) before between after old middle new falls h.0 says
+last_tells room print sizes start seed count Unheard old middle new before between after falls h says = (h.0.0, says ∙ h.0.1, h.0.2)
 
 -- a cause stays one between other calls
 pub caused_amid : (some more : Type 0) → (some → more) → (ending : Ending) (a b c d : Counts) → NeverFalls a b → NeverFalls c d → Caused some ending b c → Caused more ending a d
@@ -167,11 +167,11 @@ stopped_memory fault.FlashWrite = λ e. absurd (cc e)
 stopped_memory fault.DiskWrite = λ e. absurd (cc e)
 
 -- how the last commit ends behind which both lines are the last
-pub commit_ended : (print : List ℕ → Fp) (c s : State) (sums : Sums) (ending : Ending) (said : List ℕ) (new : World) → SaysEnd ending (both_lines sums s.count) said new.said → AllStand (StandsBy print) new s → CommitEnds print c s sums ending said new
-commit_ended print c s sums (Served faulted) said new says stands = (stands, says)
-commit_ended print c s sums (Refused why) said new says stands = absurd says
-commit_ended print c s sums (Stopped why) said new says stands = absurd says
-commit_ended print c s sums Unheard said new says stands = (stands, says)
+pub commit_ended : (room : ℕ) (print : List ℕ → Fp) (c s : State) (sums : Sums) (ending : Ending) (said : List ℕ) (new : World) → SaysEnd ending (both_lines sums s.count) said new.said → AllStand (StandsBy room print) new s → CommitEnds room print c s sums ending said new
+commit_ended room print c s sums (Served faulted) said new says stands = (stands, says)
+commit_ended room print c s sums (Refused why) said new says stands = absurd says
+commit_ended room print c s sums (Stopped why) said new says stands = absurd says
+commit_ended room print c s sums Unheard said new says stands = (stands, says)
 
 -- a call of the store that failed
 pub stopped_cause : (f : StoreFault) (a b : Counts) → Faulted f a b → Caused ⊥ (Stopped (stopped_by f)) a b

@@ -19,7 +19,7 @@ use Rattle.dd_loop.specs.Ending.{status_of}
 use Rattle.dd_loop.specs.Saying.{SaysAlone}
 use Rattle.dd_loop.specs.Standing.{AllStand, AllStandForEither, StandForEither}
 use Rattle.dd_answers.specs.Answering.{StandsBy}
-use Rattle.dd_answers.specs.Headline.{Begins, IsUnopened, sizes_from}
+use Rattle.dd_answers.specs.Headline.{Begins, IsUnopened, pace_from, sizes_from}
 use Rattle.dd_gen.specs.Running.{state_at, sums_at, AllStandWithin}
 
 -- the text goes on behind these bytes, or it ends there
@@ -56,14 +56,14 @@ stopped_by fault.DiskRead = stop.Disk
 stopped_by fault.DiskWrite = stop.Disk
 
 -- A crash within the last commit or behind it: one of two states and nothing said, or the state held and a part of both lines.
-abbrev pub WithinCommit : (List ℕ → Fp) → (c s : State) → Sums → (said : List ℕ) → Outcome → Type 0
-WithinCommit print c s sums said o =
-    (StandForEither (StandsBy print) c s o.flash o.disk × (o.out ≡ said)) ⊎ (Stands print o.flash o.disk s × SaysFront (both_lines sums s.count) said o.out)
+abbrev pub WithinCommit : (room : ℕ) → (List ℕ → Fp) → (c s : State) → Sums → (said : List ℕ) → Outcome → Type 0
+WithinCommit room print c s sums said o =
+    (StandForEither (StandsBy room print) c s o.flash o.disk × (o.out ≡ said)) ⊎ (Stands room print o.flash o.disk s × SaysFront (both_lines sums s.count) said o.out)
 
 -- and where it ends so
-abbrev pub CommitEnds : (List ℕ → Fp) → (c s : State) → Sums → Ending → (said : List ℕ) → World → Type 0
-CommitEnds print c s sums (Stopped why) said new = AllStandForEither (StandsBy print) c s new × (new.said ≡ said)
-CommitEnds print c s sums ending said new = AllStand (StandsBy print) new s × SaysEnd ending (both_lines sums s.count) said new.said
+abbrev pub CommitEnds : (room : ℕ) → (List ℕ → Fp) → (c s : State) → Sums → Ending → (said : List ℕ) → World → Type 0
+CommitEnds room print c s sums (Stopped why) said new = AllStandForEither (StandsBy room print) c s new × (new.said ≡ said)
+CommitEnds room print c s sums ending said new = AllStand (StandsBy room print) new s × SaysEnd ending (both_lines sums s.count) said new.said
 
 -- A run of so many of the commands that a seed generates, from the state at its start.
 module _ (print : List ℕ → Fp) (sizes : Sizes) (start : State) (seed count : ℕ) where
@@ -71,6 +71,15 @@ module _ (print : List ℕ → Fp) (sizes : Sizes) (start : State) (seed count :
   abbrev pub last_lines : List ℕ
   last_lines = both_lines (sums_at print sizes start seed count) (state_at print sizes start seed count).count
 
+  -- what each ending says of a whole run
+  abbrev pub Tells : Ending → (before after : Counts) → (old new : World) → Type 0
+  Tells (Served faulted) before after old new = new.said ≡ old.said ++ last_lines
+  Tells (Refused why) before after old new = ⊥
+  Tells (Stopped why) before after old new = SaysAlone (stop_text why) before after old new
+  Tells Unheard before after old new = SaysFront last_lines old.said new.said
+
+-- and what a crash leaves of it, while the epoch keeps its pace
+module _ (room : ℕ) (print : List ℕ → Fp) (sizes : Sizes) (start : State) (seed count : ℕ) where
   -- The two devices stand for the array and both lists behind some first part of the generated commands, no shorter than what the output
   -- acknowledges; and the output is a part of the two lines, or of the line that says why the run stopped. It reads the outcome's own
   -- output, so it is the same property at each moment of a run.
@@ -81,9 +90,9 @@ module _ (print : List ℕ → Fp) (sizes : Sizes) (start : State) (seed count :
     -- how many of the commands the devices have
     pub k : ℕ
     pub few : k ≤ count
-    pub stands : Stands print o.flash o.disk (state_at print sizes start seed k)
+    pub stands : Stands room print o.flash o.disk (state_at print sizes start seed k)
     pub acknowledges : acknowledged start.count output ≤ (state_at print sizes start seed k).count
-    pub part : IsFront output last_lines ⊎ ((why : Stop) × IsFront output (ended (stop_text why)))
+    pub part : IsFront output (last_lines print sizes start seed count) ⊎ ((why : Stop) × IsFront output (ended (stop_text why)))
 
   -- a crash now leaves that
   abbrev pub AllLeaveGenerated : (said : List ℕ) → World → Type 0
@@ -91,17 +100,10 @@ module _ (print : List ℕ → Fp) (sizes : Sizes) (start : State) (seed count :
 
   -- What is said where the commands end so, and what a crash then leaves. Behind a failed call of a device nothing is said yet.
   abbrev pub RunEnds : Ending → (said : List ℕ) → (new : World) → Type 0
-  RunEnds (Served faulted) said new = SaysEnd (Served faulted) last_lines said new.said × AllLeaveGenerated said new
+  RunEnds (Served faulted) said new = SaysEnd (Served faulted) (last_lines print sizes start seed count) said new.said × AllLeaveGenerated said new
   RunEnds (Refused why) said new = ⊥
-  RunEnds (Stopped why) said new = (new.said ≡ said) × AllStandWithin print sizes start seed count new
-  RunEnds Unheard said new = SaysFront last_lines said new.said × AllLeaveGenerated said new
-
-  -- what each ending says of a whole run
-  abbrev pub Tells : Ending → (before after : Counts) → (old new : World) → Type 0
-  Tells (Served faulted) before after old new = new.said ≡ old.said ++ last_lines
-  Tells (Refused why) before after old new = ⊥
-  Tells (Stopped why) before after old new = SaysAlone (stop_text why) before after old new
-  Tells Unheard before after old new = SaysFront last_lines old.said new.said
+  RunEnds (Stopped why) said new = (new.said ≡ said) × AllStandWithin room print sizes start seed count new
+  RunEnds Unheard said new = SaysFront (last_lines print sizes start seed count) said new.said × AllLeaveGenerated said new
 
 -- Why a large run ends, on every rig: which count rose. A failed read stops it, too. It is refused in the opening alone.
 abbrev pub Caused : (opening : Type 0) → Ending → (before after : Counts) → Type 0
@@ -126,4 +128,4 @@ pub record TellsSums (print : List ℕ → Fp) (sizes : Sizes) (start : State) (
 
 -- the promise on crashes: nothing was opened yet, or the devices stand for the state behind some first part of the commands
 abbrev pub Promises : {print : List ℕ → Fp} {world : World} → Begins print world → (seed count : ℕ) → Outcome → Type 0
-Promises {print} {world} from seed count o = IsUnopened world o ⊎ LeavesGenerated print (sizes_from from) from.start seed count world.said o
+Promises {print} {world} from seed count o = IsUnopened world o ⊎ LeavesGenerated (pace_from from) print (sizes_from from) from.start seed count world.said o

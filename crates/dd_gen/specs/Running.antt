@@ -31,11 +31,13 @@ module _ (print : List ℕ → Fp) (sizes : Sizes) (start : State) (seed : ℕ) 
   abbrev pub sums_at : ℕ → Sums
   sums_at n = sums_of sizes start (generated sizes seed n) no_sums
 
+-- and what is left and held of it, while the epoch keeps its pace
+module _ (room : ℕ) (print : List ℕ → Fp) (sizes : Sizes) (start : State) (seed : ℕ) where
   -- the devices stand for the state behind some of the first n
   pub record StandsWithin (n : ℕ) (flash disk : List ℕ) : Type 0 where
     pub k : ℕ
     pub few : k ≤ n
-    pub stands : Stands print flash disk (state_at k)
+    pub stands : Stands room print flash disk (state_at print sizes start seed k)
 
   -- and so does whatever a crash leaves now
   abbrev pub AllStandWithin : ℕ → World → Type 0
@@ -45,4 +47,4 @@ module _ (print : List ℕ → Fp) (sizes : Sizes) (start : State) (seed : ℕ) 
   pub record Holding (n : ℕ) (store : StoreView) (world : World) : Type 0 where
     pub k : ℕ
     pub few : k ≤ n
-    pub kept : Kept print store world (state_at k) (state_at n)
+    pub kept : Kept room print store world (state_at print sizes start seed k) (state_at print sizes start seed n)

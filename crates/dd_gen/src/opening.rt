@@ -1,5 +1,5 @@
 // A large run, from the opening to its last line.
-ghost use Rattle.std.specs.Prelude.{◌≡◌, ◌≢◌, ◌⊎◌, ◌+◌, ⊤};
+ghost use Rattle.std.specs.Prelude.{◌≡◌, ◌≢◌, ◌⊎◌, ◌+◌, ℕ, ⊤};
 ghost use Rattle.dd_rig.specs.Clock.{Elapses};
 ghost use Rattle.dd_rig.specs.Counts.{Frame, IsQuiet, Makes, up_to};
 ghost use Rattle.dd_rig.specs.World.{MayLeave, Outcome, shown};
@@ -78,11 +78,11 @@ fn end_store<F: Fingerprint, L: Lists, R: Rig>(
     rig: &mut R,
 ) -> u8
     requires ready { MayAnswer store.store (count + 1) (R.device_size rig.old) }
-    ensures crash { R.tells → (start : State) → Kept (F.printed store.print) store.store (R.world rig.old) start start
-        → Elapses (R.clock rig.old) (R.clock rig.new) (LeavesGenerated (F.printed store.print) (sizes_of store.store.journal.geo) start seed count (R.world rig.old).said) }
-    ensures left { R.tells → (start : State) → Kept (F.printed store.print) store.store (R.world rig.old) start start
-        → (o : Outcome) → MayLeave (R.world rig.new) o → LeavesGenerated (F.printed store.print) (sizes_of store.store.journal.geo) start seed count (R.world rig.old).said o }
-    ensures tells { R.tells → (start : State) → Kept (F.printed store.print) store.store (R.world rig.old) start start
+    ensures crash { R.tells → (room : ℕ) (start : State) → Kept room (F.printed store.print) store.store (R.world rig.old) start start
+        → Elapses (R.clock rig.old) (R.clock rig.new) (LeavesGenerated room (F.printed store.print) (sizes_of store.store.journal.geo) start seed count (R.world rig.old).said) }
+    ensures left { R.tells → (room : ℕ) (start : State) → Kept room (F.printed store.print) store.store (R.world rig.old) start start
+        → (o : Outcome) → MayLeave (R.world rig.new) o → LeavesGenerated room (F.printed store.print) (sizes_of store.store.journal.geo) start seed count (R.world rig.old).said o }
+    ensures tells { R.tells → (room : ℕ) (start : State) → Kept room (F.printed store.print) store.store (R.world rig.old) start start
         → TellsSums (F.printed store.print) (sizes_of store.store.journal.geo) start seed count result (R.counts rig.old) (R.counts rig.new) (R.world rig.old) (R.world rig.new) }
     ensures caused { EndsForCause ⊥ (λ ending. R.tells → SaysEnding ending (R.counts rig.old) (R.counts rig.new) (R.world rig.old) (R.world rig.new)) result (R.counts rig.old) (R.counts rig.new) }
     ensures opened { (result ≢ 2) × (result ≢ 3) }
@@ -103,10 +103,10 @@ fn run_store<F: Fingerprint, L: Lists, R: Rig>(
     rig: &mut R,
 ) -> Ending
     requires ready { MayAnswer store.store (count + 1) (R.device_size rig.old) }
-    ensures crash { R.tells → (start : State) → Kept (F.printed store.print) store.store (R.world rig.old) start start
-        → Elapses (R.clock rig.old) (R.clock rig.new) (LeavesGenerated (F.printed store.print) (sizes_of store.store.journal.geo) start seed count (R.world rig.old).said) }
-    ensures ends { R.tells → (start : State) → Kept (F.printed store.print) store.store (R.world rig.old) start start
-        → RunEnds (F.printed store.print) (sizes_of store.store.journal.geo) start seed count result (R.world rig.old).said (R.world rig.new) }
+    ensures crash { R.tells → (room : ℕ) (start : State) → Kept room (F.printed store.print) store.store (R.world rig.old) start start
+        → Elapses (R.clock rig.old) (R.clock rig.new) (LeavesGenerated room (F.printed store.print) (sizes_of store.store.journal.geo) start seed count (R.world rig.old).said) }
+    ensures ends { R.tells → (room : ℕ) (start : State) → Kept room (F.printed store.print) store.store (R.world rig.old) start start
+        → RunEnds room (F.printed store.print) (sizes_of store.store.journal.geo) start seed count result (R.world rig.old).said (R.world rig.new) }
     ensures caused { Caused ⊥ result (R.counts rig.old) (R.counts rig.new) }
     ensures memory { result ≡ Stopped Memory → rig.new ≡ rig.old }
     ensures more { R.tells → SaysMore (R.world rig.old) (R.world rig.new) }
@@ -130,10 +130,10 @@ fn commit<F: Fingerprint, L: Lists, R: Rig>(
     sums: Sums,
 ) -> Ending
     requires ready { MayAnswer store.store 1 (R.device_size rig.old) }
-    ensures crash { R.tells → (c s : State) → Kept (F.printed store.print) store.store (R.world rig.old) c s
-        → Elapses (R.clock rig.old) (R.clock rig.new) (WithinCommit (F.printed store.print) c s sums (R.world rig.old).said) }
-    ensures ends { R.tells → (c s : State) → Kept (F.printed store.print) store.store (R.world rig.old) c s
-        → CommitEnds (F.printed store.print) c s sums result (R.world rig.old).said (R.world rig.new) }
+    ensures crash { R.tells → (room : ℕ) (c s : State) → Kept room (F.printed store.print) store.store (R.world rig.old) c s
+        → Elapses (R.clock rig.old) (R.clock rig.new) (WithinCommit room (F.printed store.print) c s sums (R.world rig.old).said) }
+    ensures ends { R.tells → (room : ℕ) (c s : State) → Kept room (F.printed store.print) store.store (R.world rig.old) c s
+        → CommitEnds room (F.printed store.print) c s sums result (R.world rig.old).said (R.world rig.new) }
     ensures caused { Caused ⊥ result (R.counts rig.old) (R.counts rig.new) }
     ensures memory { result ≢ Stopped Memory }
     ensures more { R.tells → SaysMore (R.world rig.old) (R.world rig.new) }

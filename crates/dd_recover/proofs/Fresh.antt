@@ -35,7 +35,7 @@ spells_first geo flash f = record {
 }
 
 stands_fresh : (print : List ℕ → Fp) (geo : Geometry) (flash disk : List ℕ) → IsFresh geo flash → disk_need geo ≤ length disk
-    → (here : Stands print flash disk (formatted_state geo disk)) × (here.geo ≡ geo)
+    → (here : Stands 1 print flash disk (formatted_state geo disk)) × (here.geo ≡ geo)
 unfolding IsDistinct
 stands_fresh print geo flash disk f room = (
   record {
@@ -43,6 +43,7 @@ stands_fresh print geo flash disk f room = (
     table = empty_table;
     count = 0;
     says = record { reading = first_reading geo; spells = spells_first geo flash f; geometry = refl; versioned = refl; fit = record { slots = tt; addresses = tt; links = tt }; replayed = refl; counted = refl };
+    pace = omega arith;
     disk_size = room;
     means = record {
       array_length = length-array_of geo.block geo.blocks disk;
@@ -59,7 +60,7 @@ formatted print geo world flash f room =
     let here = stands_fresh print geo flash world.disk.shown f room in
     record {
       stands = here.0;
-      only = λ s stands. stands_one print flash world.disk.shown s (formatted_state geo world.disk.shown) stands here.0;
+      only = λ other s stands. stands_one other 1 print flash world.disk.shown s (formatted_state geo world.disk.shown) stands here.0;
       geometry = here.1;
       bytes = f;
     }

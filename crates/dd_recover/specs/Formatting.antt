@@ -89,8 +89,8 @@ pub record IsFresh (geo : Geometry) (flash : List ℕ) : Type 0 where
 -- both devices stand, by this geometry, for what the disk showed with empty lists and for nothing else, and the flash has the
 -- bytes of a fresh one
 pub record IsFormatted (print : List ℕ → Fp) (geo : Geometry) (old : World) (flash disk : List ℕ) : Type 0 where
-  pub stands : Stands print flash disk (formatted_state geo (shown Disk old))
-  pub only : (s : State) → Stands print flash disk s → s ≡ formatted_state geo (shown Disk old)
+  pub stands : Stands 1 print flash disk (formatted_state geo (shown Disk old))
+  pub only : (room : ℕ) (s : State) → Stands room print flash disk s → s ≡ formatted_state geo (shown Disk old)
   pub geometry : stands.geo ≡ geo
   pub bytes : IsFresh geo flash
 

@@ -1,5 +1,5 @@
 // Opening what both devices stand for.
-ghost use Rattle.std.specs.Prelude.{◌≡◌, ◌<◌, ◌≤◌, ◌^◌, Some, take, option_map, Err, IfOk, OnOk, OnErr};
+ghost use Rattle.std.specs.Prelude.{◌≡◌, ◌<◌, ◌≤◌, ◌^◌, ℕ, Some, take, option_map, Err, IfOk, OnOk, OnErr};
 ghost use Rattle.dd_block.specs.Bytes.{StandsAt};
 ghost use Rattle.dd_block.specs.Geometry.{GivesFault};
 ghost use Rattle.dd_rig.specs.declared.device.Dev.{Dev as AnyDevice};
@@ -46,8 +46,8 @@ pub fn open_store<F: Fingerprint, L: Lists, R: Rig>(
     print: F,
 ) -> Result<Store<F, L>, OpenFault>
     // its answer
-    ensures opens { R.tells → (s : State) → (stands : Stands (F.printed print) (shown FlashDevice (R.world rig.old)) (shown DiskDevice (R.world rig.old)) s) → IsYoung stands
-        → Opens print (F.printed print) stands.geo result (R.world rig.new) s }
+    ensures opens { R.tells → (room : ℕ) (s : State) → (stands : Stands room (F.printed print) (shown FlashDevice (R.world rig.old)) (shown DiskDevice (R.world rig.old)) s) → IsYoung stands
+        → Opens room print (F.printed print) stands.geo result (R.world rig.new) s }
     ensures fault { R.tells → TellsOpening result (R.device_size rig.old) (shown FlashDevice (R.world rig.old)) }
     ensures opened { IfOk result (λ opened. IsOpened opened.store (R.device_size rig.old) × (opened.print ≡ print)) }
     ensures holds { R.tells → IfOk result (λ opened. HoldsShown (F.printed print) opened.store (R.world rig.old) (R.world rig.new)) }
@@ -84,9 +84,9 @@ fn open_settled<F: Fingerprint, L: Lists, R: Rig>(
     print: F,
 ) -> Result<Store<F, L>, OpenFault>
     ensures fault { R.tells → TellsOpening result (R.device_size rig.old) (shown FlashDevice (R.world rig.old)) }
-    ensures kept { R.tells → IfOk result (λ opened. (s : State) (stands : Stands (F.printed print) (shown FlashDevice (R.world rig.old)) (shown DiskDevice (R.world rig.old)) s)
+    ensures kept { R.tells → IfOk result (λ opened. (room : ℕ) (s : State) (stands : Stands room (F.printed print) (shown FlashDevice (R.world rig.old)) (shown DiskDevice (R.world rig.old)) s)
         → IsStable (R.world rig.old).flash → IsStable (R.world rig.old).disk
-        → (opened.store.journal.geo ≡ stands.geo) × Kept (F.printed print) opened.store (R.world rig.new) s s) }
+        → (opened.store.journal.geo ≡ stands.geo) × Kept room (F.printed print) opened.store (R.world rig.new) s s) }
     ensures opened { IfOk result (λ opened. IsOpened opened.store (R.device_size rig.old)) }
     ensures says { R.tells → IfOk result (λ opened. Says (shown FlashDevice (R.world rig.old)) opened.store.journal.geo 2 opened.store.table opened.store.count) }
     ensures sits { R.tells → IfOk result (λ opened. IsStable (R.world rig.old).flash → Sits opened.store.journal (R.world rig.new) opened.store.table) }
@@ -211,8 +211,8 @@ fn open_found<F: Fingerprint, L: Lists, R: Rig>(
     ensures opened { layout.flash_need geo ≤ R.device_size rig.now FlashDevice → layout.disk_need geo ≤ R.device_size rig.now DiskDevice
         → IfOk result (λ opened. IsOpened opened.store (R.device_size rig.now)) }
     ensures print { IfOk result (λ opened. opened.print ≡ print) }
-    ensures kept { R.tells → IfOk result (λ opened. (s : State) → IsStable (R.world rig.now).flash → IsStable (R.world rig.now).disk → layout.disk_need geo ≤ R.device_size rig.now DiskDevice
-        → FoundMeans (F.printed print) geo found (R.world rig.now) s → Kept (F.printed print) opened.store (R.world rig.now) s s) }
+    ensures kept { R.tells → IfOk result (λ opened. (room : ℕ) (s : State) → IsStable (R.world rig.now).flash → IsStable (R.world rig.now).disk → layout.disk_need geo ≤ R.device_size rig.now DiskDevice
+        → FoundMeans room (F.printed print) geo found (R.world rig.now) s → Kept room (F.printed print) opened.store (R.world rig.now) s s) }
 {
     let lists = lists_of(alloc, geo, &found)?;
     let journal = found.journal;

@@ -35,23 +35,23 @@ use Rattle.dd_store.proofs.Serves.{serves_then}
 use Rattle.dd_store.proofs.UsedSlots.{some_has}
 
 -- behind a read a store holds what it held, with nothing laid
-pub kept_behind : (print : List ℕ → Fp) (old new : StoreView) (before after : World) (c s : State) → new ≡ unlaid old → after ≡ before → Kept print old before c s → Kept print new after c s
-kept_behind print old new before after c s is same kept =
-    subst (λ (v : StoreView). Kept print v after c s) (sym is) (kept_unlaid print old after c s (kept_read print old before after c s same kept))
+pub kept_behind : (room : ℕ) (print : List ℕ → Fp) (old new : StoreView) (before after : World) (c s : State) → new ≡ unlaid old → after ≡ before → Kept room print old before c s → Kept room print new after c s
+kept_behind room print old new before after c s is same kept =
+    subst (λ (v : StoreView). Kept room print v after c s) (sym is) (kept_unlaid room print old after c s (kept_read room print old before after c s same kept))
 
 -- a read in front of a call
-pub serves_behind : {T : Type 0} (print : List ℕ → Fp) (result : Result T StoreFault) {first middle last : Clock} {store : StoreView} {world : World} {c s next : State}
-    → AddsNone first middle → Serves print result middle last store world c s next → Serves print result first last store world c s next
-serves_behind print result time serves = record { crash = behind_read time serves.crash; leaves = serves.leaves }
+pub serves_behind : {T : Type 0} (room : ℕ) (print : List ℕ → Fp) (result : Result T StoreFault) {first middle last : Clock} {store : StoreView} {world : World} {c s next : State}
+    → AddsNone first middle → Serves room print result middle last store world c s next → Serves room print result first last store world c s next
+serves_behind room print result time serves = record { crash = behind_read time serves.crash; leaves = serves.leaves }
 
 -- a read that failed
-pub serves_failed : (T : Type 0) (print : List ℕ → Fp) (fault : StoreFault) → (fault ≡ FlashRead) ⊎ (fault ≡ DiskRead) → (first last : Clock) (store : StoreView) (world : World) (c s next : State)
-    → AddsNone first last → Kept print store world c s → Serves {T = T} print (Err fault) first last store world c s next
-serves_failed T print fault read first last store world c s next time kept =
-    let goes : GoesOn print c s store world s = record { committed = c; either = inl refl; kept = kept } in
+pub serves_failed : (room : ℕ) (T : Type 0) (print : List ℕ → Fp) (fault : StoreFault) → (fault ≡ FlashRead) ⊎ (fault ≡ DiskRead) → (first last : Clock) (store : StoreView) (world : World) (c s next : State)
+    → AddsNone first last → Kept room print store world c s → Serves {T = T} room print (Err fault) first last store world c s next
+serves_failed room T print fault read first last store world c s next time kept =
+    let goes : GoesOn room print c s store world s = record { committed = c; either = inl refl; kept = kept } in
     ⊎_elim
-    (λ flash. subst (λ (f : StoreFault). Serves {T = T} print (Err f) first last store world c s next) (sym flash) (record { crash = widens time (λ o none. absurd none); leaves = goes }))
-    (λ disk. subst (λ (f : StoreFault). Serves {T = T} print (Err f) first last store world c s next) (sym disk) (record { crash = widens time (λ o none. absurd none); leaves = goes }))
+    (λ flash. subst (λ (f : StoreFault). Serves {T = T} room print (Err f) first last store world c s next) (sym flash) (record { crash = widens time (λ o none. absurd none); leaves = goes }))
+    (λ disk. subst (λ (f : StoreFault). Serves {T = T} room print (Err f) first last store world c s next) (sym disk) (record { crash = widens time (λ o none. absurd none); leaves = goes }))
     read
 
 -- the block of a row that is listed, or zeros
@@ -61,24 +61,24 @@ listed_row (given.Fresh fresh) b known row found = absurd (cc known)
 listed_row given.Zero b known row found = absurd (cc found)
 
 -- room was made, and then the step with a listed block or with zeros
-module _ (print : List ℕ → Fp) (old middle : StoreView) (before after : World) (c s : State) (its : Rec) (address : ℕ) (block : Block) (dirty : Bool) (bytes : List ℕ)
+module _ (room : ℕ) (print : List ℕ → Fp) (old middle : StoreView) (before after : World) (c s : State) (its : Rec) (address : ℕ) (block : Block) (dirty : Bool) (bytes : List ℕ)
     (cleans : Cleans old middle) (is : IsStore middle) (fits : RecordFits middle its (touch_by address block dirty (listing_in middle))) (known : is_fresh_block block ≡ false)
-    (kept : Kept print old before c s) (carries : Carries print old before.flash.shown s (touch_by address block dirty (listing_in old)) bytes) where
-  there : (k : State) → Kept print middle after k s → Carries print middle after.flash.shown s (touch_by address block dirty (listing_in middle)) bytes
+    (kept : Kept room print old before c s) (carries : Carries print old before.flash.shown s (touch_by address block dirty (listing_in old)) bytes) where
+  there : (k : State) → Kept room print middle after k s → Carries print middle after.flash.shown s (touch_by address block dirty (listing_in middle)) bytes
   there k held = subst (λ (t : Touch). Carries print middle after.flash.shown s t bytes) (sym (same_touch old middle cleans address block dirty))
       (carries_still print old middle before after s cleans kept.holds held.holds (touch_by address block dirty (listing_in old)) bytes (listed_row block old.table.b known) carries)
 
   pub joined : (first last : Clock) (new : StoreView) (done : Done) → new ≡ referred_store its (touch_by address block dirty (listing_in middle)) middle
-      → Serves {T = Unit {0}} print (Ok tt) first last middle after c s s → Serves print (Ok done) first last new after c s (reference (sizes_of old.journal.geo) s address bytes)
-  joined first last new done new_is serves = serves_then print first last last middle new after after c s (reference (sizes_of old.journal.geo) s address bytes) (Ok done) serves.crash serves.leaves
+      → Serves {T = Unit {0}} room print (Ok tt) first last middle after c s s → Serves room print (Ok done) first last new after c s (reference (sizes_of old.journal.geo) s address bytes)
+  joined first last new done new_is serves = serves_then room print first last last middle new after after c s (reference (sizes_of old.journal.geo) s address bytes) (Ok done) serves.crash serves.leaves
       (λ k held. record {
         crash = starts last _;
         leaves = record {
           committed = k;
           either = inl refl;
-          kept = subst (λ (v : StoreView). Kept print v after k (reference (sizes_of old.journal.geo) s address bytes)) (sym new_is)
-              (subst (λ (g : Geometry). Kept print (referred_store its (touch_by address block dirty (listing_in middle)) middle) after k (reference (sizes_of g) s address bytes)) cleans.geometry
-              (kept_referred print middle after s is held.holds its (touch_by address block dirty (listing_in middle)) bytes (refers_of print middle after.flash.shown s its _ bytes fits (there k held)) k held));
+          kept = subst (λ (v : StoreView). Kept room print v after k (reference (sizes_of old.journal.geo) s address bytes)) (sym new_is)
+              (subst (λ (g : Geometry). Kept room print (referred_store its (touch_by address block dirty (listing_in middle)) middle) after k (reference (sizes_of g) s address bytes)) cleans.geometry
+              (kept_referred print middle after s is held.holds its (touch_by address block dirty (listing_in middle)) bytes (refers_of print middle after.flash.shown s its _ bytes fits (there k held)) room k held));
         };
       })
 
@@ -102,11 +102,11 @@ module _ (print : List ℕ → Fp) (old middle : StoreView) (before after : Worl
       (tells_as print middle after s is held its (touch_by address block dirty (listing_in middle)) bytes (refers_of print middle after.flash.shown s its _ bytes fits still)) kind)
 
 -- a fault says nothing of the next state
-pub serves_fault : (T U : Type 0) (print : List ℕ → Fp) (first last : Clock) (store : StoreView) (world : World) (c s next other : State) (fault : StoreFault)
-    → Serves {T = T} print (Err fault) first last store world c s next → Serves {T = U} print (Err fault) first last store world c s other
-serves_fault T U print first last store world c s next other fault serves = record { crash = serves.crash; leaves = by_fault fault serves.leaves }
+pub serves_fault : (room : ℕ) (T U : Type 0) (print : List ℕ → Fp) (first last : Clock) (store : StoreView) (world : World) (c s next other : State) (fault : StoreFault)
+    → Serves {T = T} room print (Err fault) first last store world c s next → Serves {T = U} room print (Err fault) first last store world c s other
+serves_fault room T U print first last store world c s next other fault serves = record { crash = serves.crash; leaves = by_fault fault serves.leaves }
   where
-    by_fault : (f : StoreFault) → Leaves {T = T} print (Err f) c s next store world → Leaves {T = U} print (Err f) c s other store world
+    by_fault : (f : StoreFault) → Leaves {T = T} room print (Err f) c s next store world → Leaves {T = U} room print (Err f) c s other store world
     by_fault FlashRead h = h
     by_fault DiskRead h = h
     by_fault FlashWrite h = h

@@ -40,9 +40,9 @@ use Rattle.dd_store.proofs.Telling.{kind_miss, kind_new}
 use Rattle.dd_store.proofs.Uses.{spare_unlisted}
 
 -- a block whose write failed
-pub entered_failed : (print : List ℕ → Fp) (first last : Clock) (old new : StoreView) (world : World) (c s next : State) → Elapses first last (λ o. Stands print o.flash o.disk c) → Kept print old world c s
-    → Serves {T = Cut} print (Err FlashWrite) first last new world c s next
-entered_failed print first last old new world c s next crash kept = record {
+pub entered_failed : (room : ℕ) (print : List ℕ → Fp) (first last : Clock) (old new : StoreView) (world : World) (c s next : State) → Elapses first last (λ o. Stands room print o.flash o.disk c) → Kept room print old world c s
+    → Serves {T = Cut} room print (Err FlashWrite) first last new world c s next
+entered_failed room print first last old new world c s next crash kept = record {
   crash = widens crash (λ o stands. inl stands);
   leaves = λ flash disk flash_image disk_image. inl (kept.stands flash disk flash_image disk_image);
 }
@@ -92,8 +92,8 @@ module _ (is_up : Bool) (journal : JournalView) (lists : Listing) (count : ℕ) 
         pub entered_holds : Holds print (referred_store its touch was) world (reference (sizes_of journal.geo) s address block)
         entered_holds = holds_referred print was world s is holds its touch block (refers_of print was world.flash.shown s its touch block entered_fits carries)
 
-        pub entered_kept : (c : State) → Kept print was world c s → Kept print (referred_store its touch was) world c (reference (sizes_of journal.geo) s address block)
-        entered_kept c kept = kept_referred print was world s is holds its touch block (refers_of print was world.flash.shown s its touch block entered_fits carries) c kept
+        pub entered_kept : (room : ℕ) (c : State) → Kept room print was world c s → Kept room print (referred_store its touch was) world c (reference (sizes_of journal.geo) s address block)
+        entered_kept room c kept = kept_referred print was world s is holds its touch block (refers_of print was world.flash.shown s its touch block entered_fits carries) room c kept
 
         away : is_at_hand block s.blocks ≡ false
         away = ap (λ b. b || is_known block s.blocks) some ∙ unknown

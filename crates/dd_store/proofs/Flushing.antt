@@ -40,9 +40,10 @@ unlaid_is store is = record {
   laid_alone = inl refl;
 }
 
-pub kept_unlaid : (print : List ℕ → Fp) (store : StoreView) (world : World) (c s : State) → Kept print store world c s → Kept print (unlaid store) world c s
-kept_unlaid print store world c s kept = record {
+pub kept_unlaid : (room : ℕ) (print : List ℕ → Fp) (store : StoreView) (world : World) (c s : State) → Kept room print store world c s → Kept room print (unlaid store) world c s
+kept_unlaid room print store world c s kept = record {
   up = kept.up;
+  pace = kept.pace;
   holds = record { means = kept.holds.means; laid = λ address never. absurd (cc never) };
   counted = kept.counted;
   stands = kept.stands;

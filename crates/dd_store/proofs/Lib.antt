@@ -27,6 +27,7 @@ pub mod Marking
 pub mod MarkingAll
 pub mod Moments
 pub mod Opening
+pub mod Pace
 pub mod Parts
 pub mod Prepared
 pub mod Ready

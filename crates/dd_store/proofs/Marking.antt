@@ -1,5 +1,5 @@
 -- The disk is synced: the laid addresses become clean, and their records are pending.
-use Rattle.std.proofs.Common.{◌≡◌, inl, ℕ, ◌*◌, ◌<◌, ◌==◌, Bool, true, false, List, [], ◌∷◌, refl, sym, ◌∙◌, ap, subst, arith, Some, None, if◌then◌else◌, cond}
+use Rattle.std.proofs.Common.{◌≡◌, inl, ℕ, ◌+◌, ◌*◌, ◌<◌, ◌≤◌, ◌==◌, length, Bool, true, false, List, [], ◌∷◌, refl, sym, ◌∙◌, ap, subst, arith, Some, None, if◌then◌else◌, cond}
 use Rattle.std.specs.Prelude.{◌||◌, ◌&&◌, not, option_and_then, count_by, Result, Ok, Err, OnErr}
 use Rattle.std.specs.List.{AllByRecursion, IsDistinct}
 use Rattle.std.proofs.lemmas.Bool.{eqb-true}
@@ -26,10 +26,11 @@ use Rattle.dd_model.proofs.Dirty.{dirty_cleaned, cleaned_ones}
 use Rattle.dd_model.proofs.RecordLaws.{shows-cleaned}
 use Rattle.dd_journal.specs.Sitting.{IsStablePart}
 use Rattle.dd_journal.proofs.Reaching.{synced_is_stable}
-use Rattle.dd_store.specs.Keeping.{StoreView, IsStore, Holds, Kept, NamesKept}
-use Rattle.dd_store.specs.Meaning.{sizes_of}
+use Rattle.dd_store.specs.Keeping.{StoreView, IsStore, Holds, Kept, NamesKept, StaysInPace}
+use Rattle.dd_store.specs.Meaning.{sizes_of, dirty_rows}
 use Rattle.dd_store.specs.Laying.{all_cleaned, all_without, clean_records, marked_store}
 use Rattle.dd_store.proofs.Committing.{nothing_pending}
+use Rattle.dd_store.proofs.Pace.{cleaned_fewer}
 use Rattle.dd_store.proofs.Sure.{Sure, sure_of, kept_of}
 
 -- rows show the same state whichever of them are dirty
@@ -68,6 +69,12 @@ dirty_all (address ∷ addresses) rows dirty ones =
 flip : (a b : ℕ) → (a == b) ≡ false → (b == a) ≡ false
 flip a b h = grind arith
 
+-- other addresses are dirty behind one that was made clean
+pub still_dirty : (address : ℕ) (others : List ℕ) (rows : List ARow) → AllByRecursion (λ other. (address == other) ≡ false) others → AllByRecursion (λ other. is_dirty_at other rows ≡ true) others
+    → AllByRecursion (λ other. is_dirty_at other (cleaned address rows) ≡ true) others
+still_dirty address [] rows other was = tt
+still_dirty address (n ∷ ns) rows other was = (other_dirty n address rows (flip address n other.0) ∙ was.0, still_dirty address ns rows other.1 was.1)
+
 -- the Clean records of distinct dirty addresses fit one after the other
 module _ (acap bcap : ℕ) where
   pub replay_cleans : (addresses : List ℕ) (table : Table) → IsDistinct (λ x y. x == y) addresses → AllByRecursion (λ address. is_dirty_at address table.a ≡ true) addresses
@@ -76,11 +83,7 @@ module _ (acap bcap : ℕ) where
   replay_cleans [] table apart dirty = refl
   replay_cleans (address ∷ addresses) table apart dirty =
       ap (λ (b : Bool). option_and_then (replay acap bcap (clean_records addresses)) (if b then Some (record table { a = cleaned address table.a }) else None)) dirty.0
-      ∙ replay_cleans addresses (record table { a = cleaned address table.a }) apart.1 (still addresses apart.0 dirty.1)
-    where
-      still : (others : List ℕ) → AllByRecursion (λ other. (address == other) ≡ false) others → AllByRecursion (λ other. is_dirty_at other table.a ≡ true) others → AllByRecursion (λ other. is_dirty_at other (cleaned address table.a) ≡ true) others
-      still [] other was = tt
-      still (n ∷ ns) other was = (other_dirty n address table.a (flip address n other.0) ∙ was.0, still ns other.1 was.1)
+      ∙ replay_cleans addresses (record table { a = cleaned address table.a }) apart.1 (still_dirty address addresses table.a apart.0 dirty.1)
 
 pub all_among : (P : ℕ → Type 0) (ns : List ℕ) → ((n : ℕ) → is_among n ns ≡ true → P n) → AllByRecursion P ns
 all_among P [] h = tt
@@ -94,8 +97,18 @@ all_among P (n ∷ ns) h = (h n (or_first (n == n) (is_among n ns) (same_number 
     or_second true b is = refl
     or_second false b is = is
 
-laid_dirty : (store : StoreView) → IsStore store → AllByRecursion (λ address. is_dirty_at address store.table.a ≡ true) store.laid
+pub laid_dirty : (store : StoreView) → IsStore store → AllByRecursion (λ address. is_dirty_at address store.table.a ≡ true) store.laid
 laid_dirty store is = all_among (λ address. is_dirty_at address store.table.a ≡ true) store.laid is.laid
+
+-- as many rows fewer are dirty
+cleaned_all : (addresses : List ℕ) (rows : List ARow) → IsDistinct (λ x y. x == y) addresses → AllByRecursion (λ address. is_dirty_at address rows ≡ true) addresses → dirty_rows (all_cleaned addresses rows) + length addresses ≤ dirty_rows rows
+unfolding IsDistinct
+cleaned_all [] rows apart dirty = omega arith
+cleaned_all (address ∷ addresses) rows apart dirty =
+    omega (arith, cleaned_all addresses (cleaned address rows) apart.1 (still_dirty address addresses rows apart.0 dirty.1), cleaned_fewer address rows dirty.0)
+
+pace_marked : (room : ℕ) (store : StoreView) → IsStore store → StaysInPace room store → StaysInPace room (marked_store store)
+pace_marked room store is pace = omega (arith, pace, cleaned_all store.laid store.table.a is.laid_once (laid_dirty store is), length-map store.laid (λ (address : ℕ). Clean address))
 
 module _ (print : List ℕ → Fp) (store : StoreView) (old : World) (s : State) (holds : Holds print store old s) where
   -- the disk has the content of what was clean, and of what was laid
@@ -118,13 +131,13 @@ module _ (print : List ℕ → Fp) (store : StoreView) (old : World) (s : State)
     laid = λ address never. absurd (cc never);
   }
 
-module _ (print : List ℕ → Fp) (store : StoreView) (old : World) (flash_shows : IsImage old.flash old.flash.shown) (disk_shows : IsImage old.disk old.disk.shown)
-    (s : State) (is : IsStore store) (kept : Kept print store old s s) (none : store.pending ≡ []) where
+module _ (room : ℕ) (print : List ℕ → Fp) (store : StoreView) (old : World) (flash_shows : IsImage old.flash old.flash.shown) (disk_shows : IsImage old.disk old.disk.shown)
+    (s : State) (is : IsStore store) (kept : Kept room print store old s s) (none : store.pending ≡ []) where
   rows_are : kept.rows ≡ store.table
-  rows_are = (nothing_pending print store old flash_shows disk_shows s s is kept none).0
+  rows_are = (nothing_pending room print store old flash_shows disk_shows s s is kept none).0
 
-  sure : Sure print store.journal old kept.rows s
-  sure = sure_of print store old flash_shows disk_shows s s kept
+  sure : Sure room print store.journal old kept.rows s
+  sure = sure_of room print store old flash_shows disk_shows s s kept
 
   abbrev synced : World
   synced = on_device Disk make_stable old
@@ -132,10 +145,11 @@ module _ (print : List ℕ → Fp) (store : StoreView) (old : World) (flash_show
   all_stable : (at n : ℕ) → IsStablePart synced.disk at n
   all_stable at n = λ bytes image. ap (λ (b : List ℕ). part b at n) (synced_is_stable old.disk bytes image)
 
-  sure_synced : Sure print store.journal synced kept.rows s
+  sure_synced : Sure room print store.journal synced kept.rows s
   sure_synced = record {
     version = sure.version;
     sits = record { stable = sure.sits.stable; each = sure.sits.each };
+    pace = sure.pace;
     fit = sure.fit;
     slots = sure.slots;
     blocks = λ address below clean. all_stable (address * store.journal.geo.block) store.journal.geo.block;
@@ -144,9 +158,9 @@ module _ (print : List ℕ → Fp) (store : StoreView) (old : World) (flash_show
   }
 
   -- behind a sync of the disk that succeeded
-  pub kept_marked : Kept print (marked_store store) synced s s
+  pub kept_marked : Kept room print (marked_store store) synced s s
   kept_marked =
-      kept_of print (marked_store store) synced kept.rows s s sure_synced kept.up
+      kept_of room print (marked_store store) synced kept.rows s s sure_synced kept.up (pace_marked room store is kept.pace)
       (holds_marked print store old s kept.holds)
       (subst (λ (t : Table). replay store.journal.geo.acap store.journal.geo.bcap (clean_records store.laid) t ≡ Some (record store.table { a = all_cleaned store.laid store.table.a })) (sym rows_are)
       (replay_cleans store.journal.geo.acap store.journal.geo.bcap store.laid store.table is.laid_once (laid_dirty store is)))
@@ -154,9 +168,9 @@ module _ (print : List ℕ → Fp) (store : StoreView) (old : World) (flash_show
       (λ address below clean. all_stable (address * store.journal.geo.block) store.journal.geo.block)
 
 -- a sync that failed changes nothing
-pub on_err_stays : {T E : Type 0} (print : List ℕ → Fp) (result : Result T E) (store : StoreView) (old new : World) (c s : State) → OnErr result (new ≡ old) → OnErr result (Kept print store old c s → Kept print store new c s)
-on_err_stays print (Ok done) store old new c s same = tt
-on_err_stays print (Err e) store old new c s same = λ kept. subst (λ (w : World). Kept print store w c s) (sym same) kept
+pub on_err_stays : {T E : Type 0} (room : ℕ) (print : List ℕ → Fp) (result : Result T E) (store : StoreView) (old new : World) (c s : State) → OnErr result (new ≡ old) → OnErr result (Kept room print store old c s → Kept room print store new c s)
+on_err_stays room print (Ok done) store old new c s same = tt
+on_err_stays room print (Err e) store old new c s same = λ kept. subst (λ (w : World). Kept room print store w c s) (sym same) kept
 
 -- Behind a mark a store keeps what its type keeps.
 none_raise : (ns : List ℕ) → count_by raises (clean_records ns) ≡ 0

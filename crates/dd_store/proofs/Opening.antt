@@ -24,7 +24,7 @@ use Rattle.dd_model.specs.State.{State}
 use Rattle.dd_model.specs.Listing.{Listing, IsListing}
 use Rattle.dd_journal.specs.Regions.{AreRows}
 use Rattle.dd_journal.specs.Sitting.{JournalView, Sits, IsStable}
-use Rattle.dd_store.specs.Meaning.{Means}
+use Rattle.dd_store.specs.Meaning.{Means, KeepsPace}
 use Rattle.dd_store.specs.Keeping.{StoreView, Kept, IsStore}
 use Rattle.dd_store.specs.Saving.{AreUsesOf, AreSlotsOf}
 use Rattle.dd_store.specs.Serving.{store_of}
@@ -32,18 +32,19 @@ use Rattle.dd_store.proofs.Sure.{kept_of}
 use Rattle.dd_store.proofs.Uses.{listed_kept}
 
 -- what it holds is committed
-pub kept_new : (print : List ℕ → Fp) (store : StoreView) (world : World) (s : State) → IsTrue store.is_up → IsStore store → store.pending ≡ [] → store.laid ≡ []
+pub kept_new : (room : ℕ) (print : List ℕ → Fp) (store : StoreView) (world : World) (s : State) → IsTrue store.is_up → IsStore store → store.pending ≡ [] → store.laid ≡ []
     → IsStable world.flash → IsStable world.disk → disk_need store.journal.geo ≤ length world.disk.stable
     → Sits store.journal world store.table
-    → Means print store.journal.geo world.flash.shown world.disk.shown store.table store.count s → Kept print store world s s
-kept_new print store world s up is none unlaid flash disk sized sits means =
+    → KeepsPace room store.journal.epoch store.table.a store.count → Means print store.journal.geo world.flash.shown world.disk.shown store.table store.count s → Kept room print store world s s
+kept_new room print store world s up is none unlaid flash disk sized sits pace means =
     let blocks = λ (address : ℕ) (below : address < store.journal.geo.blocks) (clean : is_dirty_at address store.table.a ≡ false) (bytes : List ℕ) (image : IsImage world.disk bytes).
     ap (λ (b : List ℕ). part b (address * store.journal.geo.block) store.journal.geo.block) (disk bytes image) in
     let counted : store.count ≡ store.journal.committed = is.counted ∙ ap (λ (recs : List Rec). count_after store.journal.committed recs) none ∙ omega arith in
-    kept_of print store world store.table s s
+    kept_of room print store world store.table s s
     (record {
       version = is.version;
       sits = sits;
+      pace = subst (λ (n : ℕ). KeepsPace room store.journal.epoch store.table.a n) counted pace;
       fit = is.fit;
       slots = λ slot listed bytes image. ap (λ (b : List ℕ). part b (slot_at store.journal.geo slot) store.journal.geo.block) (flash bytes image);
       blocks = blocks;
@@ -51,6 +52,7 @@ kept_new print store world s up is none unlaid flash disk sized sits means =
       size = sized;
     })
     up
+    (let empty = ap (λ (recs : List Rec). length recs) none in omega (arith, pace, empty))
     (record { means = means; laid = λ address there. absurd (cc (sym there ∙ ap (is_among address) unlaid)) })
     (ap (λ (recs : List Rec). replay store.journal.geo.acap store.journal.geo.bcap recs store.table) none)
     (listed_kept store is) blocks

@@ -103,12 +103,12 @@ says_linked flash geo version table count says =
     (are_linked says.reading.geo says.reading.version says.reading.table.a says.spells.reads.counts.rows.a_rows)
 
 -- a flash says one geometry, one table and one count
-record SaysOne (geo : Geometry) (table : Table) (count : ℕ) (other : Geometry) (rows : Table) (number : ℕ) : Type 0 where
-  same_geo : geo ≡ other
-  same_table : table ≡ rows
-  same_count : count ≡ number
+pub record SaysOne (geo : Geometry) (table : Table) (count : ℕ) (other : Geometry) (rows : Table) (number : ℕ) : Type 0 where
+  pub same_geo : geo ≡ other
+  pub same_table : table ≡ rows
+  pub same_count : count ≡ number
 
-says_one : (flash : List ℕ) (version : ℕ) (geo : Geometry) (table : Table) (count : ℕ) (other : Geometry) (rows : Table) (number : ℕ)
+pub says_one : (flash : List ℕ) (version : ℕ) (geo : Geometry) (table : Table) (count : ℕ) (other : Geometry) (rows : Table) (number : ℕ)
     → Says flash geo version table count → Says flash other version rows number → SaysOne geo table count other rows number
 says_one flash version geo table count other rows number m n =
     let same : m.reading ≡ n.reading = spells_one flash m.reading n.reading m.spells n.spells in
@@ -121,9 +121,14 @@ says_one flash version geo table count other rows number m n =
       same_count = sym m.counted ∙ ap (λ (r : Reading). count_after r.count (records_of r)) same ∙ n.counted;
     }
 
+-- by one snapshot
+pub epoch_one : (flash : List ℕ) (version : ℕ) (geo : Geometry) (table : Table) (count : ℕ) (other : Geometry) (rows : Table) (number : ℕ)
+    → (m : Says flash geo version table count) (n : Says flash other version rows number) → m.reading.epoch ≡ n.reading.epoch
+epoch_one flash version geo table count other rows number m n = ap (λ (r : Reading). r.epoch) (spells_one flash m.reading n.reading m.spells n.spells)
+
 -- two devices stand for at most one state
-pub stands_one : (print : List ℕ → Fp) (flash disk : List ℕ) (s t : State) → Stands print flash disk s → Stands print flash disk t → s ≡ t
-stands_one print flash disk s t m n =
+pub stands_one : (room other : ℕ) (print : List ℕ → Fp) (flash disk : List ℕ) (s t : State) → Stands room print flash disk s → Stands other print flash disk t → s ≡ t
+stands_one room other print flash disk s t m n =
     let one = says_one flash 2 m.geo m.table m.count n.geo n.table n.count m.says n.says in
     means_one print n.geo flash disk n.table n.count s t (says_linked flash n.geo 2 n.table n.count n.says)
     (subst (λ (c : ℕ). Means print n.geo flash disk n.table c s) one.same_count
@@ -142,8 +147,8 @@ stands_one_in_version_1 print flash disk s t m n =
     n.means
 
 -- a flash has one version, so devices that stand for a state stand for none by the other version
-pub one_version : (print : List ℕ → Fp) (flash disk : List ℕ) (s t : State) → Stands print flash disk s → StandsInVersion1 print flash disk t → ⊥
-one_version print flash disk s t m n =
+pub one_version : (room : ℕ) (print : List ℕ → Fp) (flash disk : List ℕ) (s t : State) → Stands room print flash disk s → StandsInVersion1 print flash disk t → ⊥
+one_version room print flash disk s t m n =
     let same : m.says.reading ≡ n.says.reading = spells_one flash m.says.reading n.says.reading m.says.spells n.says.spells in
     let version : m.says.reading.version ≡ n.says.reading.version = ap (λ (r : Reading). r.version) same in
     omega (arith, version, m.says.versioned, n.says.versioned)

@@ -12,27 +12,34 @@ use Rattle.dd_model.specs.State.{State}
 use Rattle.dd_journal.specs.Regions.{Reading, Says, records_of}
 use Rattle.dd_journal.specs.Sitting.{JournalView, SaysAs, Sits, IsStablePart, regions_size}
 use Rattle.dd_journal.proofs.Sole.{spells_one}
-use Rattle.dd_store.specs.Meaning.{Means, Stands}
-use Rattle.dd_store.specs.Keeping.{StoreView, Kept, Holds, AllStand, IsStableSlot, IsStableBlock, is_spare}
+use Rattle.dd_store.specs.Meaning.{Means, Stands, KeepsPace}
+use Rattle.dd_store.specs.Keeping.{StoreView, Kept, Holds, AllStand, StaysInPace, IsStableSlot, IsStableBlock, is_spare}
 use Rattle.dd_store.proofs.Parts.{LiesApart, slots_apart, regions_before}
 use Rattle.dd_store.proofs.Altering.{Alters, from_before, shown_stays, stable_stays}
 use Rattle.dd_store.proofs.Agreeing.{Agrees, means_same, says_as_same}
 
 -- a flash that says rows, over bytes that agree with those over which they mean a state
-pub stands_from : (print : List ℕ → Fp) (geo : Geometry) (flash disk flash' disk' : List ℕ) (rows : Table) (count : ℕ) (s : State)
-    → Says flash' geo 2 rows count → RowsFit rows → Agrees geo flash disk flash' disk' rows → Means print geo flash disk rows count s → disk_need geo ≤ length disk' → Stands print flash' disk' s
-stands_from print geo flash disk flash' disk' rows count s says fit agrees means room = record {
+pub stands_from : (room : ℕ) (print : List ℕ → Fp) (geo : Geometry) (flash disk flash' disk' : List ℕ) (rows : Table) (count : ℕ) (s : State)
+    → (said : Says flash' geo 2 rows count) × KeepsPace room said.reading.epoch rows.a count → RowsFit rows → Agrees geo flash disk flash' disk' rows → Means print geo flash disk rows count s → disk_need geo ≤ length disk' → Stands room print flash' disk' s
+stands_from room print geo flash disk flash' disk' rows count s said fit agrees means large = record {
   geo = geo;
   table = rows;
   count = count;
-  says = says;
-  disk_size = room;
+  says = said.0;
+  pace = said.1;
+  disk_size = large;
   means = means_same geo flash disk flash' disk' print rows count s fit agrees means;
 }
 
-pub record Sure (print : List ℕ → Fp) (journal : JournalView) (world : World) (rows : Table) (committed : State) : Type 0 where
+-- what a flash says, and what is known of its epoch, in a version of another name
+pub in_version : (P : ℕ → Type 0) (flash : List ℕ) (geo : Geometry) (v w : ℕ) (rows : Table) (count : ℕ) → v ≡ w → (says : Says flash geo v rows count) → P says.reading.epoch
+    → (said : Says flash geo w rows count) × P said.reading.epoch
+in_version P flash geo v w rows count same says h = subst (λ (n : ℕ). (said : Says flash geo n rows count) × P said.reading.epoch) same (says, h)
+
+pub record Sure (room : ℕ) (print : List ℕ → Fp) (journal : JournalView) (world : World) (rows : Table) (committed : State) : Type 0 where
   pub version : journal.version ≡ 2
   pub sits : Sits journal world rows
+  pub pace : KeepsPace room journal.epoch rows.a journal.committed
   pub fit : RowsFit rows
   pub slots : (slot : ℕ) → has_slot slot rows.b ≡ true → IsStableSlot journal.geo world slot
   pub blocks : (address : ℕ) → address < journal.geo.blocks → is_dirty_at address rows.a ≡ false → IsStableBlock journal.geo world address
@@ -40,10 +47,12 @@ pub record Sure (print : List ℕ → Fp) (journal : JournalView) (world : World
   pub size : disk_need journal.geo ≤ length world.disk.stable
 
 -- so whatever a crash leaves stands for the committed state
-pub sure_stands : (print : List ℕ → Fp) (journal : JournalView) (world : World) (rows : Table) (committed : State) → Sure print journal world rows committed → AllStand print world committed
-sure_stands print journal world rows committed sure = λ flash disk flash_image disk_image.
-    stands_from print journal.geo world.flash.shown world.disk.shown flash disk rows journal.committed committed
-    (subst (λ (v : ℕ). Says flash journal.geo v rows journal.committed) sure.version (sure.sits.each flash flash_image).says) sure.fit
+pub sure_stands : (room : ℕ) (print : List ℕ → Fp) (journal : JournalView) (world : World) (rows : Table) (committed : State) → Sure room print journal world rows committed → AllStand room print world committed
+sure_stands room print journal world rows committed sure = λ flash disk flash_image disk_image.
+    let here = sure.sits.each flash flash_image in
+    stands_from room print journal.geo world.flash.shown world.disk.shown flash disk rows journal.committed committed
+    (in_version (λ epoch. KeepsPace room epoch rows.a journal.committed) flash journal.geo journal.version 2 rows journal.committed sure.version here.says
+    (subst (λ (epoch : ℕ). KeepsPace room epoch rows.a journal.committed) (sym here.epoch) sure.pace)) sure.fit
     (record {
       slots = λ slot listed. sure.slots slot listed flash flash_image;
       blocks = λ address below clean. sure.blocks address below clean disk disk_image;
@@ -52,7 +61,7 @@ sure_stands print journal world rows committed sure = λ flash disk flash_image 
     (omega (arith, sure.size, disk_image.same_length))
 
 -- the one reading of a flash tells what a state that it stands for is by
-module _ (print : List ℕ → Fp) (flash disk : List ℕ) (geo : Geometry) (version : ℕ) (rows : Table) (count : ℕ) (says : Says flash geo version rows count) (s : State) (stands : Stands print flash disk s) where
+module _ (room : ℕ) (print : List ℕ → Fp) (flash disk : List ℕ) (geo : Geometry) (version : ℕ) (rows : Table) (count : ℕ) (says : Says flash geo version rows count) (s : State) (stands : Stands room print flash disk s) where
   same_reading : stands.says.reading ≡ says.reading
   same_reading = spells_one flash stands.says.reading says.reading stands.says.spells says.spells
 
@@ -77,34 +86,44 @@ module _ (print : List ℕ → Fp) (flash disk : List ℕ) (geo : Geometry) (ver
       (subst (λ (t : Table). Means print geo flash disk t stands.count s) same_table
       (subst (λ (g : Geometry). Means print g flash disk stands.table stands.count s) same_geo stands.means))
 
+  pub pace_that : KeepsPace room says.reading.epoch rows.a count
+  pace_that =
+      subst (λ (c : ℕ). KeepsPace room says.reading.epoch rows.a c) same_count
+      (subst (λ (t : Table). KeepsPace room says.reading.epoch t.a stands.count) same_table
+      (subst (λ (r : Reading). KeepsPace room r.epoch stands.table.a stands.count) same_reading stands.pace))
+
   pub disk_large : disk_need geo ≤ length disk
   disk_large = subst (λ (g : Geometry). disk_need g ≤ length disk) same_geo stands.disk_size
 
 -- what is kept, and what the devices are sure of
-module _ (print : List ℕ → Fp) (store : StoreView) (world : World) (flash_shows : IsImage world.flash world.flash.shown) (disk_shows : IsImage world.disk world.disk.shown) (c s : State) where
-  pub sure_of : (k : Kept print store world c s) → Sure print store.journal world k.rows c
+module _ (room : ℕ) (print : List ℕ → Fp) (store : StoreView) (world : World) (flash_shows : IsImage world.flash world.flash.shown) (disk_shows : IsImage world.disk world.disk.shown) (c s : State) where
+  pub sure_of : (k : Kept room print store world c s) → Sure room print store.journal world k.rows c
   sure_of k =
-      let says = (k.sits.each world.flash.shown flash_shows).says in
+      let here = k.sits.each world.flash.shown flash_shows in
+      let says = here.says in
       let stands = k.stands world.flash.shown world.disk.shown flash_shows disk_shows in
       record {
-        version = same_version print world.flash.shown world.disk.shown store.journal.geo store.journal.version k.rows store.journal.committed says c stands;
+        version = same_version room print world.flash.shown world.disk.shown store.journal.geo store.journal.version k.rows store.journal.committed says c stands;
         sits = k.sits;
+        pace = subst (λ (epoch : ℕ). KeepsPace room epoch k.rows.a store.journal.committed) here.epoch
+            (pace_that room print world.flash.shown world.disk.shown store.journal.geo store.journal.version k.rows store.journal.committed says c stands);
         fit = k.fit;
         slots = k.slots_stable;
         blocks = k.blocks_committed;
-        means = means_that print world.flash.shown world.disk.shown store.journal.geo store.journal.version k.rows store.journal.committed says c stands;
-        size = omega (arith, disk_large print world.flash.shown world.disk.shown store.journal.geo store.journal.version k.rows store.journal.committed says c stands, disk_shows.same_length);
+        means = means_that room print world.flash.shown world.disk.shown store.journal.geo store.journal.version k.rows store.journal.committed says c stands;
+        size = omega (arith, disk_large room print world.flash.shown world.disk.shown store.journal.geo store.journal.version k.rows store.journal.committed says c stands, disk_shows.same_length);
       }
 
-pub kept_of : (print : List ℕ → Fp) (store : StoreView) (world : World) (rows : Table) (c s : State) → Sure print store.journal world rows c → IsTrue store.is_up → Holds print store world s
+pub kept_of : (room : ℕ) (print : List ℕ → Fp) (store : StoreView) (world : World) (rows : Table) (c s : State) → Sure room print store.journal world rows c → IsTrue store.is_up → StaysInPace room store → Holds print store world s
     → replay store.journal.geo.acap store.journal.geo.bcap store.pending rows ≡ Some store.table
     → ((slot : ℕ) → has_slot slot rows.b ≡ true → is_spare slot store.uses ≡ false)
-    → ((address : ℕ) → address < store.journal.geo.blocks → is_dirty_at address store.table.a ≡ false → IsStableBlock store.journal.geo world address) → Kept print store world c s
-kept_of print store world rows c s sure up holds replayed used blocks = record {
+    → ((address : ℕ) → address < store.journal.geo.blocks → is_dirty_at address store.table.a ≡ false → IsStableBlock store.journal.geo world address) → Kept room print store world c s
+kept_of room print store world rows c s sure up pace holds replayed used blocks = record {
   up = up;
+  pace = pace;
   holds = holds;
   counted = sure.means.lists.counted;
-  stands = sure_stands print store.journal world rows c sure;
+  stands = sure_stands room print store.journal world rows c sure;
   rows = rows;
   sits = sure.sits;
   fit = sure.fit;
@@ -130,7 +149,7 @@ module _ (print : List ℕ → Fp) (journal : JournalView) (old new : World) (sl
       means
 
 -- a slot of the flash changes that the committed rows don't list
-module _ (print : List ℕ → Fp) (journal : JournalView) (old new : World) (rows : Table) (c : State) (sure : Sure print journal old rows c)
+module _ (room : ℕ) (print : List ℕ → Fp) (journal : JournalView) (old new : World) (rows : Table) (c : State) (sure : Sure room print journal old rows c)
     (slot : ℕ) (unlisted : has_slot slot rows.b ≡ false) (alters : Alters (slot_at journal.geo slot) journal.geo.block old.flash new.flash) (same_disk : new.disk ≡ old.disk)
     (fits : slot_at journal.geo slot + journal.geo.block ≤ length old.flash.stable) where
   in_front : LiesApart (slot_at journal.geo slot) journal.geo.block (region_at journal.geo 0) (regions_size journal.geo)
@@ -143,13 +162,14 @@ module _ (print : List ℕ → Fp) (journal : JournalView) (old new : World) (ro
       says_as_same journal was.before bytes rows (omega (arith, here.says.spells.reads.region, here.region))
       (record { same_length = sym was.same_length; same = λ place lt. was.same_outside place (inl (omega (arith, regions_before journal.geo slot))) }) here
 
-  pub sure_flash : Sure print journal new rows c
+  pub sure_flash : Sure room print journal new rows c
   sure_flash = record {
     version = sure.version;
     sits = record {
       stable = stable_stays (slot_at journal.geo slot) journal.geo.block old.flash new.flash alters fits (region_at journal.geo 0) (regions_size journal.geo) in_front sure.sits.stable;
       each = says_still;
     };
+    pace = sure.pace;
     fit = sure.fit;
     slots = λ listed is. stable_stays (slot_at journal.geo slot) journal.geo.block old.flash new.flash alters fits (slot_at journal.geo listed) journal.geo.block (other_slot print journal old new slot alters same_disk fits rows unlisted listed is) (sure.slots listed is);
     blocks = λ address below clean. subst (λ (d : Device). IsStablePart d (address * journal.geo.block) journal.geo.block) (sym same_disk) (sure.blocks address below clean);

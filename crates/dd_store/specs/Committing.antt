@@ -12,12 +12,12 @@ use Rattle.dd_store.specs.Meaning.{Stands}
 use Rattle.dd_store.specs.Keeping.{StoreView}
 
 -- both devices stand for one of two states
-abbrev pub StandForEither : (List ℕ → Fp) → (one another : State) → (flash disk : List ℕ) → Type 0
-StandForEither print one another flash disk = Stands print flash disk one ⊎ Stands print flash disk another
+abbrev pub StandForEither : (room : ℕ) → (List ℕ → Fp) → (one another : State) → (flash disk : List ℕ) → Type 0
+StandForEither room print one another flash disk = Stands room print flash disk one ⊎ Stands room print flash disk another
 
 -- whatever a crash leaves now stands for one of two states
-abbrev pub AllStandForEither : (List ℕ → Fp) → (one another : State) → World → Type 0
-AllStandForEither print one another world = (flash disk : List ℕ) → IsImage world.flash flash → IsImage world.disk disk → StandForEither print one another flash disk
+abbrev pub AllStandForEither : (room : ℕ) → (List ℕ → Fp) → (one another : State) → World → Type 0
+AllStandForEither room print one another world = (flash disk : List ℕ) → IsImage world.flash flash → IsImage world.disk disk → StandForEither room print one another flash disk
 
 -- a store with this journal, these rows and this count, and these pending records
 abbrev pub with_parts : StoreView → JournalView → Table → ℕ → List Rec → StoreView

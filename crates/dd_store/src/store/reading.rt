@@ -1,5 +1,5 @@
 // A read.
-ghost use Rattle.std.specs.Prelude.{◌≡◌, ◌<◌, ◌≤◌, ◌*◌, length, false, IfOk, IfErr, OnOk, IsTrue};
+ghost use Rattle.std.specs.Prelude.{◌≡◌, ◌<◌, ◌≤◌, ◌*◌, length, false, IfOk, IfErr, OnOk, IsTrue, ℕ};
 ghost use Rattle.dd_rig.specs.declared.device.Dev.TheVariants.{Flash as FlashDevice, Disk as DiskDevice};
 ghost use Rattle.dd_rig.specs.Clock.{AddsNone};
 ghost use Rattle.dd_rig.specs.Counts.{count_read};
@@ -42,8 +42,8 @@ impl<F: Fingerprint, L: Lists> Store<F, L> {
         requires call { MayCall self.old.store (R.device_size rig.old) }
         requires below { address < self.old.store.journal.geo.blocks }
         requires long { length into.old ≡ self.old.store.journal.geo.block }
-        ensures serves { R.tells → (c s : State) → Kept (F.printed self.old.print) self.old.store (R.world rig.old) c s
-            → Serves (F.printed self.old.print) result (R.clock rig.old) (R.clock rig.new) self.new.store (R.world rig.new) c s
+        ensures serves { R.tells → (room : ℕ) (c s : State) → Kept room (F.printed self.old.print) self.old.store (R.world rig.old) c s
+            → Serves room (F.printed self.old.print) result (R.clock rig.old) (R.clock rig.new) self.new.store (R.world rig.new) c s
             (reference (sizes_of self.old.store.journal.geo) s address (content s.array address)) }
         ensures tells { R.tells → (s : State) → Holds (F.printed self.old.print) self.old.store (R.world rig.old) s
             → IfOk result (λ done. (into.new ≡ content s.array address) × Tells (F.printed self.old.print) done (read_answer (sizes_of self.old.store.journal.geo) s address)) }

@@ -1,5 +1,5 @@
 // Room for a reference: what it would let fall off is clean.
-ghost use Rattle.std.specs.Prelude.{◌≡◌, ◌+◌, ◌-◌, ◌^◌, ◌<◌, ◌≤◌, length, true, false, Ok, IfSome, IfErr, OnOk, IsTrue};
+ghost use Rattle.std.specs.Prelude.{◌≡◌, ◌+◌, ◌-◌, ◌^◌, ◌<◌, ◌≤◌, length, true, false, Ok, IfSome, IfErr, OnOk, IsTrue, ℕ};
 ghost use Rattle.dd_record.specs.Table.{is_dirty_at};
 ghost use Rattle.dd_model.specs.State.{State};
 ghost use Rattle.dd_store.specs.declared.fault.StoreFault.TheVariants.{FlashRead};
@@ -24,8 +24,8 @@ impl<F: Fingerprint, L: Lists> Store<F, L> {
         want: Want,
     ) -> Result<(), StoreFault>
         requires { MayCall self.old.store (R.device_size rig.old) }
-        ensures serves { R.tells → (c s : State) → Kept (F.printed self.old.print) self.old.store (R.world rig.old) c s
-            → Serves (F.printed self.old.print) result (R.clock rig.old) (R.clock rig.new) self.new.store (R.world rig.new) c s s }
+        ensures serves { R.tells → (room : ℕ) (c s : State) → Kept room (F.printed self.old.print) self.old.store (R.world rig.old) c s
+            → Serves room (F.printed self.old.print) result (R.clock rig.old) (R.clock rig.new) self.new.store (R.world rig.new) c s s }
         ensures holds { R.tells → (s : State) → Holds (F.printed self.old.print) self.old.store (R.world rig.old) s
             → HoldsThen (F.printed self.old.print) result s s self.new.store (R.world rig.new) }
         ensures silent { R.tells → IsSilent (R.clock rig.old) (R.clock rig.new) (R.world rig.old) (R.world rig.new) }
@@ -63,8 +63,8 @@ impl<F: Fingerprint, L: Lists> Store<F, L> {
     fn clean_out<R: Rig>(&mut self, rig: &mut R, out: Option<u32>) -> Result<(), StoreFault>
         requires call { IsReady self.old.store (R.device_size rig.old) }
         requires epoch { self.old.store.journal.epoch + length self.old.store.dirty < 2 ^ 64 - 1 }
-        ensures serves { R.tells → (c s : State) → Kept (F.printed self.old.print) self.old.store (R.world rig.old) c s
-            → Serves (F.printed self.old.print) result (R.clock rig.old) (R.clock rig.new) self.new.store (R.world rig.new) c s s }
+        ensures serves { R.tells → (room : ℕ) (c s : State) → Kept room (F.printed self.old.print) self.old.store (R.world rig.old) c s
+            → Serves room (F.printed self.old.print) result (R.clock rig.old) (R.clock rig.new) self.new.store (R.world rig.new) c s s }
         ensures holds { R.tells → (s : State) → Holds (F.printed self.old.print) self.old.store (R.world rig.old) s
             → HoldsThen (F.printed self.old.print) result s s self.new.store (R.world rig.new) }
         ensures silent { R.tells → IsSilent (R.clock rig.old) (R.clock rig.new) (R.world rig.old) (R.world rig.new) }
@@ -95,8 +95,8 @@ impl<F: Fingerprint, L: Lists> Store<F, L> {
     fn clean_one<R: Rig>(&mut self, rig: &mut R, address: u32) -> Result<(), StoreFault>
         requires call { IsReady self.old.store (R.device_size rig.old) }
         requires epoch { self.old.store.journal.epoch + length self.old.store.dirty < 2 ^ 64 - 1 }
-        ensures serves { R.tells → (c s : State) → Kept (F.printed self.old.print) self.old.store (R.world rig.old) c s
-            → Serves (F.printed self.old.print) result (R.clock rig.old) (R.clock rig.new) self.new.store (R.world rig.new) c s s }
+        ensures serves { R.tells → (room : ℕ) (c s : State) → Kept room (F.printed self.old.print) self.old.store (R.world rig.old) c s
+            → Serves room (F.printed self.old.print) result (R.clock rig.old) (R.clock rig.new) self.new.store (R.world rig.new) c s s }
         ensures holds { R.tells → (s : State) → Holds (F.printed self.old.print) self.old.store (R.world rig.old) s
             → HoldsThen (F.printed self.old.print) result s s self.new.store (R.world rig.new) }
         ensures silent { R.tells → IsSilent (R.clock rig.old) (R.clock rig.new) (R.world rig.old) (R.world rig.new) }

@@ -19,8 +19,8 @@ returns-clause-crash g c = λ t u start kept.
     let sizes : Sizes = sizes_of c.args.store.store.journal.geo in
     let commands : List Command = commands_of (dialect_of sizes) (g.S.Source.rest c.args.source.now) in
     let said : List ℕ = (g.R.Rig.world c.args.rig.now).said in
-    goes_on (widens (c.serve_store-ending.ensures.crash t u start kept) (λ o h. headline_from print sizes start commands said o h)) (c.finish.ensures.within t)
-    (λ o h. headline_last print sizes start commands said c.serve_store-ending.result (g.R.Rig.world c.serve_store-ending.new.rig) (g.R.Rig.counts c.args.rig.now) (g.R.Rig.counts c.serve_store-ending.new.rig)
+    goes_on (widens (c.serve_store-ending.ensures.crash t u start kept) (λ o h. headline_from print (g.R.Rig.world c.args.rig.now) kept.0 kept.1 sizes start commands said o h)) (c.finish.ensures.within t)
+    (λ o h. headline_last print (g.R.Rig.world c.args.rig.now) kept.0 kept.1 sizes start commands said c.serve_store-ending.result (g.R.Rig.world c.serve_store-ending.new.rig) (g.R.Rig.counts c.args.rig.now) (g.R.Rig.counts c.serve_store-ending.new.rig)
     (c.serve_store-ending.ensures.ends t u start kept) o h)
 
 pub returns-clause-left : goal.returns-clause-left
@@ -29,7 +29,7 @@ returns-clause-left g c = λ t u start kept o may.
     let sizes : Sizes = sizes_of c.args.store.store.journal.geo in
     let commands : List Command = commands_of (dialect_of sizes) (g.S.Source.rest c.args.source.now) in
     let same = c.finish.ensures.devices t in
-    headline_behind print sizes start commands (g.R.Rig.world c.args.rig.now).said c.serve_store-ending.result (g.R.Rig.world c.serve_store-ending.new.rig) (g.R.Rig.world c.finish.new.rig)
+    headline_behind print (g.R.Rig.world c.args.rig.now) kept.0 kept.1 sizes start commands (g.R.Rig.world c.args.rig.now).said c.serve_store-ending.result (g.R.Rig.world c.serve_store-ending.new.rig) (g.R.Rig.world c.finish.new.rig)
     (g.R.Rig.counts c.args.rig.now) (g.R.Rig.counts c.serve_store-ending.new.rig) (g.R.Rig.counts c.finish.new.rig)
     (c.serve_store-ending.ensures.ends t u start kept) (c.finish.ensures.said t) same.0 same.1 o may
 
@@ -38,7 +38,7 @@ returns-clause-serves g c = λ t u start kept.
     let print : List ℕ → Fp = g.F.Fingerprint.printed c.args.store.print in
     let sizes : Sizes = sizes_of c.args.store.store.journal.geo in
     let script : List ℕ = g.S.Source.rest c.args.source.now in
-    serves_last print sizes start script 0 c.serve_store-ending.result c.finish.result (g.R.Rig.world c.args.rig.now) (g.R.Rig.world c.serve_store-ending.new.rig) (g.R.Rig.world c.finish.new.rig)
+    serves_last print sizes start script 0 (g.R.Rig.world c.args.rig.now) c.serve_store-ending.result c.finish.result (g.R.Rig.world c.args.rig.now) (g.R.Rig.world c.serve_store-ending.new.rig) (g.R.Rig.world c.finish.new.rig)
     (g.R.Rig.counts c.args.rig.now) (g.R.Rig.counts c.serve_store-ending.new.rig) (g.R.Rig.counts c.finish.new.rig) (g.S.Source.tells → IsBounded sizes script → ⊥) (g.S.Source.failures c.args.source.now) (g.S.Source.failures c.serve_store-ending.new.source)
     c.serve_store-ending.ensures.frame.0 c.finish.ensures.frame.0 ((c.finish.ensures.devices t).1, c.finish.ensures.idle) (c.serve_store-ending.ensures.ends t u start kept) (c.finish.ensures.said t) c.finish.ensures.status
     (λ long. long u) (λ faulted is. (c.serve_store-ending.ensures.taken u (subst IsServed (sym is) tt)).1) c.serve_store-ending.ensures.caused
@@ -49,7 +49,7 @@ returns-clause-quiet g c = λ t u start kept quiet still bounded.
     let sizes : Sizes = sizes_of c.args.store.store.journal.geo in
     let script : List ℕ = g.S.Source.rest c.args.source.now in
     subst (λ (status : ℕ). status ≡ 0 ⊎ status ≡ 4) (sym c.finish.ensures.status)
-    (quiet_ending print sizes start (commands_of (dialect_of sizes) script) (g.S.Source.tells → IsBounded sizes script → ⊥) c.serve_store-ending.result (g.R.Rig.world c.args.rig.now).said (g.R.Rig.world c.serve_store-ending.new.rig)
+    (quiet_ending print (g.R.Rig.world c.args.rig.now) sizes start (commands_of (dialect_of sizes) script) (g.S.Source.tells → IsBounded sizes script → ⊥) c.serve_store-ending.result (g.R.Rig.world c.args.rig.now).said (g.R.Rig.world c.serve_store-ending.new.rig)
     (g.R.Rig.counts c.args.rig.now) (g.R.Rig.counts c.serve_store-ending.new.rig) (g.R.Rig.counts c.finish.new.rig) (g.S.Source.failures c.args.source.now) (g.S.Source.failures c.serve_store-ending.new.source)
     (c.serve_store-ending.ensures.ends t u start kept) c.serve_store-ending.ensures.caused c.finish.ensures.frame.0 quiet still (λ long. long u bounded))
 

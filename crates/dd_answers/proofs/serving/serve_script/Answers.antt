@@ -10,7 +10,6 @@ use Rattle.dd_script.specs.Command.{Command}
 use Rattle.dd_script.specs.Output.{dialect_of}
 use Rattle.dd_script.specs.Reading.{Held, left, fuel, IsTakenTo}
 use Rattle.dd_script.specs.Script.{commands_of, EndsWithin}
-use Rattle.dd_store.specs.Keeping.{Kept}
 use Rattle.dd_store.specs.Meaning.{sizes_of}
 use Rattle.dd_loop.specs.Answering.{Pays}
 use Rattle.dd_loop.specs.Halting.{Halts}
@@ -18,7 +17,7 @@ use Rattle.dd_loop.specs.Terms.{Terms}
 use Rattle.dd_loop.specs.Serving.{ServedAll, ServedUpTo}
 use Rattle.dd_loop.specs.Standing.{IsHeld, StandForPrefix}
 use Rattle.dd_loop.proofs.Served.{all_by, some_by}
-use Rattle.dd_answers.specs.Answering.{StandsBy}
+use Rattle.dd_answers.specs.Answering.{KeptSince, StandsSince}
 use Rattle.dd_answers.specs.Costs.{CostsLines, HasArrayBehind}
 use Rattle.dd_answers.specs.Serving.{LinesPaid}
 use Rattle.dd_answers.proofs.Finishing.{ok_both}
@@ -31,7 +30,7 @@ returns-clause-crash g c = λ t u start kept.
     let print : List ℕ → Fp = g.F.Fingerprint.printed c.args.store.print in
     let sizes : Sizes = sizes_of c.args.store.store.journal.geo in
     subst (λ (h : Held). Elapses (g.R.Rig.clock c.args.rig.now) (g.R.Rig.clock c.serve_lines-served.new.rig)
-    (StandForPrefix (StandsBy print) print sizes start (commands_of (dialect_of sizes) (left h (g.S.Source.rest c.args.source.now))) old.said)) c.in_ok-reader.ensures
+    (StandForPrefix (StandsSince print old) print sizes start (commands_of (dialect_of sizes) (left h (g.S.Source.rest c.args.source.now))) old.said)) c.in_ok-reader.ensures
     (c.serve_lines-served.ensures.crash t u old start kept)
 
 pub returns-clause-all : goal.returns-clause-all
@@ -44,14 +43,14 @@ returns-clause-all g c = λ t u start kept.
     let geo : Geometry = c.args.store.store.journal.geo in
     let commands : List Command = commands_of (dialect_of (sizes_of geo)) (left c.in_ok-reader.reader (g.S.Source.rest c.args.source.now)) in
     let store = c.serve_lines-served.new.cache.store in
-    let few : length c.args.store.store.dirty ≤ length start.addresses = omega (arith, c.knows_dirty.ensures.listed, listed_rows print c.args.store.store old start start kept) in
-    subst (λ (h : Held). IfOk c.serve_lines-served.result (λ faulted. ServedAll print (sizes_of geo) (StandsBy print) start (commands_of (dialect_of (sizes_of geo)) (left h (g.S.Source.rest c.args.source.now)))
+    let few : length c.args.store.store.dirty ≤ length start.addresses = omega (arith, c.knows_dirty.ensures.listed, listed_rows kept.0 print c.args.store.store old start start kept.2) in
+    subst (λ (h : Held). IfOk c.serve_lines-served.result (λ faulted. ServedAll print (sizes_of geo) (StandsSince print old) start (commands_of (dialect_of (sizes_of geo)) (left h (g.S.Source.rest c.args.source.now)))
     (LinesPaid (length start.addresses) before after) (HasArrayBehind (sizes_of geo) new) faulted old.said new)) c.in_ok-reader.ensures
     (ok_map c.serve_lines-served.result _ _
-    (all_by print (sizes_of geo) (StandsBy print) start commands (Pays (CostsLines c.args.store.store store.store) before after) (LinesPaid (length start.addresses) before after)
+    (all_by print (sizes_of geo) (StandsSince print old) start commands (Pays (CostsLines c.args.store.store store.store) before after) (LinesPaid (length start.addresses) before after)
     (spent_by (length start.addresses) c.args.store.store store.store before after few) old.said new
-    (λ lines s. IsHeld (λ committed held. Kept (g.F.Fingerprint.printed store.print) store.store new committed held) s) (HasArrayBehind (sizes_of geo) new)
-    (drained_by (g.F.Fingerprint.printed store.print) c.args.store.store store.store new before after (ap (λ (terms : Terms). terms.sizes) c.serve_lines-served.ensures.same) c.requires.few c.knows_dirty-2.ensures.none))
+    (λ lines s. IsHeld (λ committed held. KeptSince (g.F.Fingerprint.printed store.print) store.store old new committed held) s) (HasArrayBehind (sizes_of geo) new)
+    (drained_by (g.F.Fingerprint.printed store.print) c.args.store.store store.store old new before after (ap (λ (terms : Terms). terms.sizes) c.serve_lines-served.ensures.same) c.requires.few c.knows_dirty-2.ensures.none))
     (c.serve_lines-served.ensures.all t u old start kept))
 
 pub returns-clause-some : goal.returns-clause-some
@@ -64,11 +63,11 @@ returns-clause-some g c = λ t u start kept.
     let geo : Geometry = c.args.store.store.journal.geo in
     let commands : List Command = commands_of (dialect_of (sizes_of geo)) (left c.in_ok-reader.reader (g.S.Source.rest c.args.source.now)) in
     let store = c.serve_lines-served.new.cache.store in
-    let few : length c.args.store.store.dirty ≤ length start.addresses = omega (arith, c.knows_dirty.ensures.listed, listed_rows print c.args.store.store old start start kept) in
-    subst (λ (h : Held). IfErr c.serve_lines-served.result (λ halt. ServedUpTo print (sizes_of geo) (StandsBy print) start (commands_of (dialect_of (sizes_of geo)) (left h (g.S.Source.rest c.args.source.now)))
+    let few : length c.args.store.store.dirty ≤ length start.addresses = omega (arith, c.knows_dirty.ensures.listed, listed_rows kept.0 print c.args.store.store old start start kept.2) in
+    subst (λ (h : Held). IfErr c.serve_lines-served.result (λ halt. ServedUpTo print (sizes_of geo) (StandsSince print old) start (commands_of (dialect_of (sizes_of geo)) (left h (g.S.Source.rest c.args.source.now)))
     (LinesPaid (length start.addresses) before after) halt old.said new)) c.in_ok-reader.ensures
     (err_map c.serve_lines-served.result _ _
-    (some_by print (sizes_of geo) (StandsBy print) start commands (Pays (CostsLines c.args.store.store store.store) before after) (LinesPaid (length start.addresses) before after)
+    (some_by print (sizes_of geo) (StandsSince print old) start commands (Pays (CostsLines c.args.store.store store.store) before after) (LinesPaid (length start.addresses) before after)
     (spent_by (length start.addresses) c.args.store.store store.store before after few) old.said new)
     (c.serve_lines-served.ensures.some t u old start kept))
 

@@ -150,7 +150,7 @@ returns-in-Serve-clause-shown g c = λ t.
           let sizes = sizes_from from in
           let says = c.serve.ensures.serves t u from in
           stats_tell printed sizes from.start (commands_of (dialect_of sizes) script) (lines_of says.output).whole (lines_of says.output).rest (commands_in (dialect_of sizes) script)
-          (stands_state printed _ _ from.start from.stands) aligned says.answers;
+          (stands_state from.room printed _ _ from.start from.stands) aligned says.answers;
     })
 
 pub returns-in-Serve-clause-crash : goal.returns-in-Serve-clause-crash

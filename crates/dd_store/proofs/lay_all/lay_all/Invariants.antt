@@ -16,10 +16,10 @@ invariant-loop-address g l =
     let clock = g.R.Rig.clock in
     let table = (g.L.Lists.listing l.lists).table in
     record {
-      crash : g.R.Rig.tells → (print : List ℕ → Fp) (store : StoreView) (s : State) → store.journal.geo ≡ l.geo → store.table ≡ table → IsStore store → MayLayAll store l.addresses → Kept print store (world l.initial.rig) s s
-          → Elapses (clock l.initial.rig) (clock l.rig) (λ o. Stands print o.flash o.disk s);
-      laid : g.R.Rig.tells → (print : List ℕ → Fp) (store : StoreView) (s : State) → store.journal.geo ≡ l.geo → store.table ≡ table → IsStore store → MayLayAll store l.addresses → Kept print store (world l.initial.rig) s s
-          → Kept print (all_laid (take l.address-index l.addresses) store) (world l.rig) s s;
+      crash : g.R.Rig.tells → (room : ℕ) (print : List ℕ → Fp) (store : StoreView) (s : State) → store.journal.geo ≡ l.geo → store.table ≡ table → IsStore store → MayLayAll store l.addresses → Kept room print store (world l.initial.rig) s s
+          → Elapses (clock l.initial.rig) (clock l.rig) (λ o. Stands room print o.flash o.disk s);
+      laid : g.R.Rig.tells → (room : ℕ) (print : List ℕ → Fp) (store : StoreView) (s : State) → store.journal.geo ≡ l.geo → store.table ≡ table → IsStore store → MayLayAll store l.addresses → Kept room print store (world l.initial.rig) s s
+          → Kept room print (all_laid (take l.address-index l.addresses) store) (world l.rig) s s;
       holds : g.R.Rig.tells → (print : List ℕ → Fp) (store : StoreView) (s : State) → store.journal.geo ≡ l.geo → store.table ≡ table → IsStore store → MayLayAll store l.addresses → Holds print store (world l.initial.rig) s
           → Holds print (all_laid (take l.address-index l.addresses) store) (world l.rig) s;
       unsaid : g.R.Rig.tells → Elapses (clock l.initial.rig) (clock l.rig) (λ o. o.out ≡ (world l.initial.rig).said);

@@ -19,7 +19,7 @@ returns-clause-says g c = λ t first one s kept.
     let lists = c.lists.result.now in
     let a = g.met.L.Lists.same_a lists ∙ ap (λ (t : Table). t.a) c.lists.ensures.table in
     let b = g.met.L.Lists.same_b lists ∙ ap (λ (t : Table). t.b) c.lists.ensures.table in
-    let is = ap (λ rows. rows_text rows (g.L.Rows.b_rows lists)) a ∙ ap (λ rows. rows_text store.table.a rows) b ∙ rows_say print (sizes_of store.journal.geo) (slot_block store.journal.geo world.flash.shown) store.table store.count s kept.holds.means.lists in
+    let is = ap (λ rows. rows_text rows (g.L.Rows.b_rows lists)) a ∙ ap (λ rows. rows_text store.table.a rows) b ∙ rows_say print (sizes_of store.journal.geo) (slot_block store.journal.geo world.flash.shown) store.table store.count s kept.2.holds.means.lists in
     subst (λ (l : List ℕ). SaysPiece (ended l) (g.R.Rig.clock c.args.rig.now) (g.R.Rig.clock c.say_rows.new.rig) world (g.R.Rig.world c.say_rows.new.rig)) is (c.say_rows.ensures.says t)
 
 pub returns-clause-said : goal.returns-clause-said
@@ -30,7 +30,7 @@ returns-clause-said g c = λ t first one s kept.
     let lists = c.lists.result.now in
     let a = g.met.L.Lists.same_a lists ∙ ap (λ (t : Table). t.a) c.lists.ensures.table in
     let b = g.met.L.Lists.same_b lists ∙ ap (λ (t : Table). t.b) c.lists.ensures.table in
-    let is = ap (λ rows. rows_text rows (g.L.Rows.b_rows lists)) a ∙ ap (λ rows. rows_text store.table.a rows) b ∙ rows_say print (sizes_of store.journal.geo) (slot_block store.journal.geo world.flash.shown) store.table store.count s kept.holds.means.lists in
+    let is = ap (λ rows. rows_text rows (g.L.Rows.b_rows lists)) a ∙ ap (λ rows. rows_text store.table.a rows) b ∙ rows_say print (sizes_of store.journal.geo) (slot_block store.journal.geo world.flash.shown) store.table store.count s kept.2.holds.means.lists in
     on_ok c.say_rows.result _ _ (λ now. now ∙ ap (λ (l : List ℕ). say (ended l) world) is) (c.say_rows.ensures.said t)
 
 pub returns-clause-more : goal.returns-clause-more
