@@ -37,6 +37,7 @@ use Rattle.dd_answers.specs.Serving.{Caused, Ends, LinesPaid, IsServed, LoopEnds
 use Rattle.dd_answers.specs.Costs.{calls_of}
 use Rattle.dd_answers.proofs.Finishing.{unserved}
 use Rattle.dd_answers.proofs.Lasting.{said_some, serves_stopped}
+use Rattle.dd_store.specs.Meaning.{Basis}
 
 -- a cause stays one behind more calls
 pub caused_later : (opening long some more : Type 0) → (opening → some) → (long → more) → (ending : Ending) (a b c : Counts) (m n : ℕ) → NeverFalls b c → Caused opening long ending a b m n → Caused some more ending a c m n
@@ -124,35 +125,35 @@ pub record Stops (fault : OpenFault) : Type 0 where
   pub is : ending_of fault ≡ Stopped why
   pub short : why ≡ stop.Length → ⊥
 
-pub stops : {F : Type 0} (room : ℕ) (print : F) (printed : List ℕ → Fp) (geo : Geometry) (fault : OpenFault) (new : World) (s : State) → Opens room print printed geo (Err fault) new s → Stops fault
-stops room print printed geo (open_fault.Memory e) new s h = record { why = stop.Memory; is = refl; short = λ e. absurd (cc) }
-stops room print printed geo open_fault.FlashRead new s h = record { why = stop.Flash; is = refl; short = λ e. absurd (cc) }
-stops room print printed geo open_fault.FlashWrite new s h = record { why = stop.Flash; is = refl; short = λ e. absurd (cc) }
-stops room print printed geo open_fault.DiskWrite new s h = record { why = stop.Disk; is = refl; short = λ e. absurd (cc) }
-stops room print printed geo (open_fault.FlashSmall need have) new s h = absurd h
-stops room print printed geo (open_fault.DiskSmall need have) new s h = absurd h
-stops room print printed geo (open_fault.Super fault) new s h = absurd h
-stops room print printed geo open_fault.NoRegion new s h = absurd h
-stops room print printed geo (open_fault.Snapshot region at) new s h = absurd h
-stops room print printed geo (open_fault.Group region at) new s h = absurd h
-stops room print printed geo (open_fault.Worn value) new s h = absurd h
-stops room print printed geo open_fault.Version1 new s h = absurd h
+pub stops : {F : Type 0} (basis : Basis) (print : F) (printed : List ℕ → Fp) (geo : Geometry) (fault : OpenFault) (new : World) (s : State) → Opens basis print printed geo (Err fault) new s → Stops fault
+stops basis print printed geo (open_fault.Memory e) new s h = record { why = stop.Memory; is = refl; short = λ e. absurd (cc) }
+stops basis print printed geo open_fault.FlashRead new s h = record { why = stop.Flash; is = refl; short = λ e. absurd (cc) }
+stops basis print printed geo open_fault.FlashWrite new s h = record { why = stop.Flash; is = refl; short = λ e. absurd (cc) }
+stops basis print printed geo open_fault.DiskWrite new s h = record { why = stop.Disk; is = refl; short = λ e. absurd (cc) }
+stops basis print printed geo (open_fault.FlashSmall need have) new s h = absurd h
+stops basis print printed geo (open_fault.DiskSmall need have) new s h = absurd h
+stops basis print printed geo (open_fault.Super fault) new s h = absurd h
+stops basis print printed geo open_fault.NoRegion new s h = absurd h
+stops basis print printed geo (open_fault.Snapshot region at) new s h = absurd h
+stops basis print printed geo (open_fault.Group region at) new s h = absurd h
+stops basis print printed geo (open_fault.Worn value) new s h = absurd h
+stops basis print printed geo open_fault.Version1 new s h = absurd h
 
 -- where no call fails such an opening fails for want of memory alone
-pub quiet_fault : {F : Type 0} (room : ℕ) (print : F) (printed : List ℕ → Fp) (geo : Geometry) (fault : OpenFault) (new : World) (s : State) (a b c : Counts) → Opens room print printed geo (Err fault) new s → OpenFaulted fault a b → NeverFalls b c → IsQuiet a c
+pub quiet_fault : {F : Type 0} (basis : Basis) (print : F) (printed : List ℕ → Fp) (geo : Geometry) (fault : OpenFault) (new : World) (s : State) (a b c : Counts) → Opens basis print printed geo (Err fault) new s → OpenFaulted fault a b → NeverFalls b c → IsQuiet a c
     → status_of (ending_of fault) ≡ 4
-quiet_fault room print printed geo (open_fault.Memory e) new s a b c h rose falls quiet = refl
-quiet_fault room print printed geo open_fault.FlashRead new s a b c h rose falls quiet = absurd (still_all _ _ _ falls.flash.failed_reads quiet.flash_reads rose)
-quiet_fault room print printed geo open_fault.FlashWrite new s a b c h rose falls quiet = absurd (still_all _ _ _ falls.flash.failed_writes quiet.flash_writes rose)
-quiet_fault room print printed geo open_fault.DiskWrite new s a b c h rose falls quiet = absurd (still_all _ _ _ falls.disk.failed_writes quiet.disk_writes rose)
-quiet_fault room print printed geo (open_fault.FlashSmall need have) new s a b c h rose falls quiet = absurd h
-quiet_fault room print printed geo (open_fault.DiskSmall need have) new s a b c h rose falls quiet = absurd h
-quiet_fault room print printed geo (open_fault.Super fault) new s a b c h rose falls quiet = absurd h
-quiet_fault room print printed geo open_fault.NoRegion new s a b c h rose falls quiet = absurd h
-quiet_fault room print printed geo (open_fault.Snapshot region at) new s a b c h rose falls quiet = absurd h
-quiet_fault room print printed geo (open_fault.Group region at) new s a b c h rose falls quiet = absurd h
-quiet_fault room print printed geo (open_fault.Worn value) new s a b c h rose falls quiet = absurd h
-quiet_fault room print printed geo open_fault.Version1 new s a b c h rose falls quiet = absurd h
+quiet_fault basis print printed geo (open_fault.Memory e) new s a b c h rose falls quiet = refl
+quiet_fault basis print printed geo open_fault.FlashRead new s a b c h rose falls quiet = absurd (still_all _ _ _ falls.flash.failed_reads quiet.flash_reads rose)
+quiet_fault basis print printed geo open_fault.FlashWrite new s a b c h rose falls quiet = absurd (still_all _ _ _ falls.flash.failed_writes quiet.flash_writes rose)
+quiet_fault basis print printed geo open_fault.DiskWrite new s a b c h rose falls quiet = absurd (still_all _ _ _ falls.disk.failed_writes quiet.disk_writes rose)
+quiet_fault basis print printed geo (open_fault.FlashSmall need have) new s a b c h rose falls quiet = absurd h
+quiet_fault basis print printed geo (open_fault.DiskSmall need have) new s a b c h rose falls quiet = absurd h
+quiet_fault basis print printed geo (open_fault.Super fault) new s a b c h rose falls quiet = absurd h
+quiet_fault basis print printed geo open_fault.NoRegion new s a b c h rose falls quiet = absurd h
+quiet_fault basis print printed geo (open_fault.Snapshot region at) new s a b c h rose falls quiet = absurd h
+quiet_fault basis print printed geo (open_fault.Group region at) new s a b c h rose falls quiet = absurd h
+quiet_fault basis print printed geo (open_fault.Worn value) new s a b c h rose falls quiet = absurd h
+quiet_fault basis print printed geo open_fault.Version1 new s a b c h rose falls quiet = absurd h
 
 -- the run was refused, there was no memory, or a device failed
 fault_status : (fault : OpenFault) → (status_of (ending_of fault) ≡ 3) ⊎ ((status_of (ending_of fault) ≡ 4) ⊎ (status_of (ending_of fault) ≡ 7))

@@ -10,7 +10,7 @@ use Rattle.dd_rig.specs.declared.tallies.Calls.{Calls}
 use Rattle.dd_rig.specs.Counts.{IsStill, Rose, NeverFalls, plus}
 use Rattle.dd_rig.proofs.Falling.{falls_self}
 use Rattle.dd_rig.specs.Device.{Device, IsImage}
-use Rattle.dd_rig.specs.World.{World, Outcome, MayLeave, shown}
+use Rattle.dd_rig.specs.World.{World, Outcome, MayLeave}
 use Rattle.dd_model.specs.State.{Sizes, State, array_of}
 use Rattle.dd_script.specs.declared.reply.Stop.{Stop}
 use Rattle.dd_script.specs.declared.reply.Stop.TheVariants as stop
@@ -34,10 +34,11 @@ use Rattle.dd_loop.specs.Serving.{Sofar, ServedUpTo}
 use Rattle.dd_loop.specs.Standing.{Stood, StandForPrefix}
 use Rattle.dd_loop.proofs.Faults.{counts_both, counts_later}
 use Rattle.dd_loop.proofs.Standing.{prefix_of_lines, stood-snoc, whole_snoc, flat_snoc, front_no_end}
-use Rattle.dd_answers.specs.Answering.{IsPaceOf, StandsSince}
+use Rattle.dd_answers.specs.Answering.{IsBasisOf, StandsSince}
 use Rattle.dd_answers.specs.Headline.{Headline}
-use Rattle.dd_answers.proofs.Pacing.{pace_one}
-use Rattle.dd_store.specs.Meaning.{Stands}
+use Rattle.dd_recover.proofs.Beginning.{begins_at}
+use Rattle.dd_answers.proofs.Pacing.{basis_one}
+use Rattle.dd_store.specs.Meaning.{Basis, Stands}
 use Rattle.dd_script.specs.Answers.{state_after}
 use Rattle.dd_answers.specs.Serving.{Caused, Ends, LinesPaid, IsBounded, LoopEnds, Serves}
 use Rattle.dd_answers.specs.Costs.{CallsLittle, HasArrayBehind}
@@ -141,13 +142,13 @@ module _ (print : List ℕ → Fp) (sizes : Sizes) (start : State) (commands : L
       cut_part : (xs : List ℕ) → n ≤ length xs → take n (ended xs) ≡ take n xs
       cut_part xs k = take-append-le n xs (10 ∷ []) k
 
--- what a crash leaves, by the pace of the world in which the run began
-module _ (print : List ℕ → Fp) (first : World) (room : ℕ) (pace : IsPaceOf room (shown dev.Flash first)) (sizes : Sizes) (start : State) (commands : List Command) (said : List ℕ) where
+-- what a crash leaves, on what the world had in which the run began
+module _ (print : List ℕ → Fp) (first : World) (basis : Basis) (has : IsBasisOf basis first) (sizes : Sizes) (start : State) (commands : List Command) (said : List ℕ) where
   -- the count that the flash spells is that of the state
-  pub headline_from : (o : Outcome) → StandForPrefix (StandsSince print first) print sizes start commands said o → Headline room print sizes start commands said o
+  pub headline_from : (o : Outcome) → StandForPrefix (StandsSince print first) print sizes start commands said o → Headline basis print sizes start commands said o
   headline_from o h =
-      let stands : Stands room print o.flash o.disk (state_after sizes start commands h.output h.k) =
-      subst (λ n. Stands n print o.flash o.disk (state_after sizes start commands h.output h.k)) (pace_one h.stands.0 room (shown dev.Flash first) h.stands.1 pace) h.stands.2 in
+      let stands : Stands basis print o.flash o.disk (state_after sizes start commands h.output h.k) =
+      subst (λ n. Stands n print o.flash o.disk (state_after sizes start commands h.output h.k)) (basis_one h.stands.0 basis first h.stands.1 has) h.stands.2 in
       record {
         output = h.output;
         out = h.out;
@@ -155,28 +156,29 @@ module _ (print : List ℕ → Fp) (first : World) (room : ℕ) (pace : IsPaceOf
         few = h.few;
         stands = stands;
         counted = sym stands.means.lists.counted ∙ count_after sizes start (lines_of h.output).whole commands h.k h.few;
+        again = begins_at basis print (state_after sizes start commands h.output h.k) o.flash o.disk stands;
         acknowledges = h.acknowledges;
         answers = h.answers;
       }
 
   headline_lines : (o : Outcome) (lines : List (List ℕ)) (rest : List ℕ) → o.out ≡ said ++ (flat_map ended lines ++ rest) → AllByRecursion HasNoEnd lines → HasNoEnd rest
-      → Tell print sizes start commands lines rest → Stood (StandsSince print first) print sizes start commands lines o.flash o.disk → Headline room print sizes start commands said o
+      → Tell print sizes start commands lines rest → Stood (StandsSince print first) print sizes start commands lines o.flash o.disk → Headline basis print sizes start commands said o
   headline_lines o lines rest is whole no_end tell stood = headline_from o (prefix_of_lines (StandsSince print first) print sizes start commands said o lines rest is whole no_end tell stood)
 
   -- what was said so far, where a crash now leaves a prefix
-  headline_sofar : (Paid : List (List ℕ) → Type 0) (new : World) (so : Sofar print sizes (StandsSince print first) start commands Paid said new) (o : Outcome) → o.out ≡ new.said → IsImage new.flash o.flash → IsImage new.disk o.disk → Headline room print sizes start commands said o
+  headline_sofar : (Paid : List (List ℕ) → Type 0) (new : World) (so : Sofar print sizes (StandsSince print first) start commands Paid said new) (o : Outcome) → o.out ≡ new.said → IsImage new.flash o.flash → IsImage new.disk o.disk → Headline basis print sizes start commands said o
   headline_sofar Paid new so o is flash disk =
       headline_lines o so.lines so.rest (is ∙ so.said) so.whole so.no_end (tell-part print sizes so.lines start commands so.rest so.answered so.part) (so.now o.flash o.disk flash disk)
 
   headline_stopped : (why : Stop) (n : ℕ) (new : World) (before after : Counts) (served : ServedUpTo print sizes (StandsSince print first) start commands (LinesPaid (length start.addresses) before after) (halts.Stopped why) said new) (o : Outcome)
-      → o.out ≡ new.said ++ take n (ended (stop_text why)) → IsImage new.flash o.flash → IsImage new.disk o.disk → Headline room print sizes start commands said o
+      → o.out ≡ new.said ++ take n (ended (stop_text why)) → IsImage new.flash o.flash → IsImage new.disk o.disk → Headline basis print sizes start commands said o
   headline_stopped why n new before after served o is flash disk =
       let falls : NeverFalls after after = falls_self after in
       let s = stopping print sizes start commands said (length start.addresses) (StandsSince print first) why n new o.out before after after served.sofar served.halts.1 served.halts.0 falls is in
       headline_lines o s.now s.rest s.out_is s.whole s.no_end s.tell (s.later o.flash o.disk (served.sofar.now o.flash o.disk flash disk))
 
   -- a crash within the last line
-  pub headline_last : (ending : Ending) (new : World) (before after : Counts) → LoopEnds print first sizes start commands ending said new before after → (o : Outcome) → WithinLast (ending_line ending) new o → Headline room print sizes start commands said o
+  pub headline_last : (ending : Ending) (new : World) (before after : Counts) → LoopEnds print first sizes start commands ending said new before after → (o : Outcome) → WithinLast (ending_line ending) new o → Headline basis print sizes start commands said o
   headline_last (Served faulted) new before after ends o within = absurd within
   headline_last (Refused why) new before after ends o within = absurd ends
   headline_last (Stopped why) new before after ends o within = headline_stopped why within.0 new before after ends o within.1.out within.1.flash within.1.disk
@@ -184,7 +186,7 @@ module _ (print : List ℕ → Fp) (first : World) (room : ℕ) (pace : IsPaceOf
 
   -- a crash behind the last line
   pub headline_behind : (ending : Ending) (middle new : World) (before between after : Counts) → LoopEnds print first sizes start commands ending said middle before between → SaysLast (ending_line ending) between after middle new
-      → new.flash ≡ middle.flash → new.disk ≡ middle.disk → (o : Outcome) → MayLeave new o → Headline room print sizes start commands said o
+      → new.flash ≡ middle.flash → new.disk ≡ middle.disk → (o : Outcome) → MayLeave new o → Headline basis print sizes start commands said o
   headline_behind (Served faulted) middle new before between after ends says flash disk o left =
       headline_sofar _ middle ends.sofar o (left.out ∙ says) (subst (λ (d : Device). IsImage d o.flash) flash left.flash) (subst (λ (d : Device). IsImage d o.disk) disk left.disk)
   headline_behind (Refused why) middle new before between after ends says flash disk o left = absurd ends

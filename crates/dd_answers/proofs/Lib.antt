@@ -1,4 +1,3 @@
-pub mod Again
 pub mod Costs
 pub mod Pacing
 pub mod Spent

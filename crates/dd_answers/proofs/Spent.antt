@@ -13,7 +13,7 @@ use Rattle.dd_model.proofs.Arrays.{array_block, length-array_of}
 use Rattle.dd_script.specs.Counting.{dirty_after}
 use Rattle.dd_script.proofs.Counting.{dirty_more}
 use Rattle.dd_store.specs.Keeping.{StoreView, Kept}
-use Rattle.dd_store.specs.Meaning.{Means, sizes_of}
+use Rattle.dd_store.specs.Meaning.{Basis, Means, sizes_of}
 use Rattle.dd_loop.specs.Answering.{Pays}
 use Rattle.dd_loop.specs.Standing.{IsHeld}
 use Rattle.dd_answers.specs.Answering.{KeptSince}
@@ -33,8 +33,8 @@ spent_by listed old new before after few lines more paid = (
 )
 
 -- as many addresses are listed as there are rows
-pub listed_rows : (room : ℕ) (print : List ℕ → Fp) (store : StoreView) (world : World) (c s : State) → Kept room print store world c s → length store.table.a ≡ length s.addresses
-listed_rows room print store world c s kept = sym (length-map store.table.a entry_of) ∙ ap length (sym kept.holds.means.lists.addresses)
+pub listed_rows : (basis : Basis) (print : List ℕ → Fp) (store : StoreView) (world : World) (c s : State) → Kept basis print store world c s → length store.table.a ≡ length s.addresses
+listed_rows basis print store world c s kept = sym (length-map store.table.a entry_of) ∙ ap length (sym kept.holds.means.lists.addresses)
 
 -- the disk has the array where no address is dirty
 array_held : (geo : Geometry) (print : List ℕ → Fp) (flash disk : List ℕ) (table : Table) (count : ℕ) (s : State) → Means print geo flash disk table count s → ((address : ℕ) → is_dirty_at address table.a ≡ false)

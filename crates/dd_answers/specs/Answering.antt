@@ -14,7 +14,7 @@ use Rattle.dd_script.specs.Text.{ended, fault_text}
 use Rattle.dd_store.specs.declared.fault.StoreFault.{StoreFault}
 use Rattle.dd_store.specs.declared.fault.StoreFault.TheVariants.{FlashRead, DiskRead, FlashWrite, DiskWrite}
 use Rattle.dd_store.specs.Keeping.{StoreView, Kept}
-use Rattle.dd_store.specs.Meaning.{Stands, dirty_rows, sizes_of}
+use Rattle.dd_store.specs.Meaning.{HasBehind, Basis, Stands, dirty_rows, sizes_of}
 use Rattle.dd_loop.specs.declared.cache.Written.{Written}
 use Rattle.dd_loop.specs.declared.halt.Halt.{Halt}
 use Rattle.dd_loop.specs.declared.halt.Halt.TheVariants.{Stopped}
@@ -25,24 +25,26 @@ abbrev pub store_terms : (List ℕ → Fp) → StoreView → Terms
 store_terms print store = record { print = print; sizes = sizes_of store.journal.geo; reads_only = false }
 
 -- the devices stand for a state by these fingerprints
-abbrev pub StandsBy : (room : ℕ) → (List ℕ → Fp) → (flash disk : List ℕ) → State → Type 0
-StandsBy room print flash disk s = Stands room print flash disk s
+abbrev pub StandsBy : (basis : Basis) → (List ℕ → Fp) → (flash disk : List ℕ) → State → Type 0
+StandsBy basis print flash disk s = Stands basis print flash disk s
 
--- how far the epoch that a flash spells is ahead of what its count explains
-pub record IsPaceOf (room : ℕ) (flash : List ℕ) : Type 0 where
+-- what the devices of a world have that the flash spells: how far its epoch is ahead of what its count explains, and what lies behind
+-- the slots and behind the array
+pub record IsBasisOf (basis : Basis) (world : World) : Type 0 where
   pub geo : Geometry
   pub table : Table
   pub count : ℕ
-  pub says : Says flash geo 2 table count
-  pub is : room ≡ says.reading.epoch + 2 * dirty_rows table.a - 3 * count
+  pub says : Says (shown dev.Flash world) geo 2 table count
+  pub room : basis.room ≡ says.reading.epoch + 2 * dirty_rows table.a - 3 * count
+  pub behind : HasBehind basis geo (shown dev.Flash world) (shown dev.Disk world)
 
--- a store holds a state and has committed another, and its epoch keeps the pace of the world in which the run began
+-- a store holds a state and has committed another, on what the world had in which the run began
 abbrev pub KeptSince : (List ℕ → Fp) → StoreView → (first now : World) → (committed held : State) → Type 0
-KeptSince print store first now committed held = (room : ℕ) × IsPaceOf room (shown dev.Flash first) × Kept room print store now committed held
+KeptSince print store first now committed held = (basis : Basis) × IsBasisOf basis first × Kept basis print store now committed held
 
--- the devices stand for a state, and their epoch keeps that pace
+-- the devices stand for a state on that
 abbrev pub StandsSince : (List ℕ → Fp) → (first : World) → (flash disk : List ℕ) → State → Type 0
-StandsSince print first flash disk s = (room : ℕ) × IsPaceOf room (shown dev.Flash first) × StandsBy room print flash disk s
+StandsSince print first flash disk s = (basis : Basis) × IsBasisOf basis first × StandsBy basis print flash disk s
 
 -- so many lines more may be answered: the store is up, its numbers leave room for them, and the devices are large enough
 pub record MayAnswer (store : StoreView) (lines : ℕ) (size : Dev → ℕ) : Type 0 where

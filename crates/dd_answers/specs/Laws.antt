@@ -15,11 +15,12 @@ use Rattle.dd_script.specs.Counting.{dirty_after}
 use Rattle.dd_script.proofs.Counting.{faults_both, hits_both, loads_both, updates_both, calm_both, dirty_both, dirty_more, dirty_few, lists_counted, lists_dirty}
 use Rattle.dd_answers.specs.Answering.{MayAnswer}
 use Rattle.dd_answers.specs.Costs.{CostsWhole, CostsLines}
+use Rattle.dd_store.specs.Meaning.{Basis}
 
 -- over the same devices with another output
-said_other : (room : ℕ) (print : List ℕ → Fp) (store : StoreView) (flash disk : Device) (one another : List ℕ) (c s : State)
-    → Kept room print store (record { flash = flash; disk = disk; said = one }) c s → Kept room print store (record { flash = flash; disk = disk; said = another }) c s
-said_other room print store flash disk one another c s k = record {
+said_other : (basis : Basis) (print : List ℕ → Fp) (store : StoreView) (flash disk : Device) (one another : List ℕ) (c s : State)
+    → Kept basis print store (record { flash = flash; disk = disk; said = one }) c s → Kept basis print store (record { flash = flash; disk = disk; said = another }) c s
+said_other basis print store flash disk one another c s k = record {
   up = k.up;
   pace = k.pace;
   holds = record { means = k.holds.means; laid = k.holds.laid };
@@ -36,10 +37,10 @@ said_other room print store flash disk one another c s k = record {
 }
 
 -- the output is no part of what is kept
-pub kept_unsaid : (room : ℕ) (print : List ℕ → Fp) (store : StoreView) (old new : World) (c s : State) → new.flash ≡ old.flash → new.disk ≡ old.disk → Kept room print store old c s → Kept room print store new c s
-kept_unsaid room print store old new c s e f k =
-    subst (λ (flash : Device). Kept room print store (record { flash = flash; disk = new.disk; said = new.said }) c s) (sym e)
-    (subst (λ (disk : Device). Kept room print store (record { flash = old.flash; disk = disk; said = new.said }) c s) (sym f) (said_other room print store old.flash old.disk old.said new.said c s k))
+pub kept_unsaid : (basis : Basis) (print : List ℕ → Fp) (store : StoreView) (old new : World) (c s : State) → new.flash ≡ old.flash → new.disk ≡ old.disk → Kept basis print store old c s → Kept basis print store new c s
+kept_unsaid basis print store old new c s e f k =
+    subst (λ (flash : Device). Kept basis print store (record { flash = flash; disk = new.disk; said = new.said }) c s) (sym e)
+    (subst (λ (disk : Device). Kept basis print store (record { flash = old.flash; disk = disk; said = new.said }) c s) (sym f) (said_other basis print store old.flash old.disk old.said new.said c s k))
 
 pub answers_fewer : (store : StoreView) (n m : ℕ) (size : Dev → ℕ) → m ≤ n → MayAnswer store n size → MayAnswer store m size
 answers_fewer store n m size le h = record { up = h.up; count = omega (arith, h.count, le); epoch = omega (arith, h.epoch, le); flash = h.flash; disk = h.disk }

@@ -10,7 +10,7 @@ ghost use Rattle.dd_script.specs.Text.{HasNoEnd, reply_room, ended, bad_text, st
 ghost use Rattle.dd_rig.specs.World.{World};
 ghost use Rattle.dd_model.specs.Orphans.{orphans_of, orphaned_addresses, orphaned_blocks};
 ghost use Rattle.dd_store.specs.Keeping.{Holds, Kept};
-ghost use Rattle.dd_store.specs.Meaning.{sizes_of};
+ghost use Rattle.dd_store.specs.Meaning.{Basis, sizes_of};
 ghost use Rattle.dd_loop.specs.Answering.{Pays, WritesLine, WritesAnswer};
 ghost use Rattle.dd_loop.specs.Halting.{HaltsByDevice};
 ghost use Rattle.dd_loop.specs.Standing.{AllStandForEither, WithinCall};
@@ -57,13 +57,13 @@ fn write_read<F: Fingerprint, L: Lists, R: Rig>(
     requires below { address < store.old.store.journal.geo.blocks }
     requires block { length block.old ≡ store.old.store.journal.geo.block }
     requires text { length text.old ≡ reply_room }
-    ensures crash { R.tells → (room : ℕ) (c s : State) → Kept room (F.printed store.old.print) store.old.store (R.world rig.old) c s
-        → Elapses (R.clock rig.old) (R.clock rig.new) (WithinCall (StandsBy room (F.printed store.old.print)) c s (R.world rig.old)) }
-    ensures answer { R.tells → (room : ℕ) (c s : State) → Kept room (F.printed store.old.print) store.old.store (R.world rig.old) c s
-        → IfOk result (λ written. WritesLine (F.printed store.old.print) (sizes_of store.old.store.journal.geo) (λ committed held. Kept room (F.printed store.old.print) store.new.store (R.world rig.new) committed held)
+    ensures crash { R.tells → (basis : Basis) (c s : State) → Kept basis (F.printed store.old.print) store.old.store (R.world rig.old) c s
+        → Elapses (R.clock rig.old) (R.clock rig.new) (WithinCall (StandsBy basis (F.printed store.old.print)) c s (R.world rig.old)) }
+    ensures answer { R.tells → (basis : Basis) (c s : State) → Kept basis (F.printed store.old.print) store.old.store (R.world rig.old) c s
+        → IfOk result (λ written. WritesLine (F.printed store.old.print) (sizes_of store.old.store.journal.geo) (λ committed held. Kept basis (F.printed store.old.print) store.new.store (R.world rig.new) committed held)
         (λ lines. Pays (CostsLines store.old.store store.new.store) (R.counts rig.old) (R.counts rig.new) lines 0) c s (a_read address) written text.new) }
-    ensures halt { R.tells → (room : ℕ) (c s : State) → Kept room (F.printed store.old.print) store.old.store (R.world rig.old) c s
-        → IfErr result (λ halt. AllStandForEither (StandsBy room (F.printed store.old.print)) c s (R.world rig.new) × CostsLines store.old.store store.new.store [] 1 (R.counts rig.old) (R.counts rig.new)) }
+    ensures halt { R.tells → (basis : Basis) (c s : State) → Kept basis (F.printed store.old.print) store.old.store (R.world rig.old) c s
+        → IfErr result (λ halt. AllStandForEither (StandsBy basis (F.printed store.old.print)) c s (R.world rig.new) × CostsLines store.old.store store.new.store [] 1 (R.counts rig.old) (R.counts rig.new)) }
     ensures cause { IfErr result (λ halt. HaltsByDevice (λ device. Unit {0}) halt (R.counts rig.old) (R.counts rig.new)) }
     ensures said { R.tells → (R.world rig.new).said ≡ (R.world rig.old).said }
     ensures room { IfOk result (λ written. written.size ≤ reply_room) }
@@ -93,13 +93,13 @@ fn write_write<F: Fingerprint, L: Lists, R: Rig>(
     requires below { address < store.old.store.journal.geo.blocks }
     requires block { length block.now ≡ store.old.store.journal.geo.block }
     requires text { length text.old ≡ reply_room }
-    ensures crash { R.tells → (room : ℕ) (c s : State) → Kept room (F.printed store.old.print) store.old.store (R.world rig.old) c s
-        → Elapses (R.clock rig.old) (R.clock rig.new) (WithinCall (StandsBy room (F.printed store.old.print)) c s (R.world rig.old)) }
-    ensures answer { R.tells → (room : ℕ) (c s : State) → Kept room (F.printed store.old.print) store.old.store (R.world rig.old) c s
-        → IfOk result (λ written. WritesLine (F.printed store.old.print) (sizes_of store.old.store.journal.geo) (λ committed held. Kept room (F.printed store.old.print) store.new.store (R.world rig.new) committed held)
+    ensures crash { R.tells → (basis : Basis) (c s : State) → Kept basis (F.printed store.old.print) store.old.store (R.world rig.old) c s
+        → Elapses (R.clock rig.old) (R.clock rig.new) (WithinCall (StandsBy basis (F.printed store.old.print)) c s (R.world rig.old)) }
+    ensures answer { R.tells → (basis : Basis) (c s : State) → Kept basis (F.printed store.old.print) store.old.store (R.world rig.old) c s
+        → IfOk result (λ written. WritesLine (F.printed store.old.print) (sizes_of store.old.store.journal.geo) (λ committed held. Kept basis (F.printed store.old.print) store.new.store (R.world rig.new) committed held)
         (λ lines. Pays (CostsLines store.old.store store.new.store) (R.counts rig.old) (R.counts rig.new) lines 0) c s (a_write address block.now) written text.new) }
-    ensures halt { R.tells → (room : ℕ) (c s : State) → Kept room (F.printed store.old.print) store.old.store (R.world rig.old) c s
-        → IfErr result (λ halt. AllStandForEither (StandsBy room (F.printed store.old.print)) c s (R.world rig.new) × CostsLines store.old.store store.new.store [] 1 (R.counts rig.old) (R.counts rig.new)) }
+    ensures halt { R.tells → (basis : Basis) (c s : State) → Kept basis (F.printed store.old.print) store.old.store (R.world rig.old) c s
+        → IfErr result (λ halt. AllStandForEither (StandsBy basis (F.printed store.old.print)) c s (R.world rig.new) × CostsLines store.old.store store.new.store [] 1 (R.counts rig.old) (R.counts rig.new)) }
     ensures cause { IfErr result (λ halt. HaltsByDevice (λ device. Unit {0}) halt (R.counts rig.old) (R.counts rig.new)) }
     ensures said { R.tells → (R.world rig.new).said ≡ (R.world rig.old).said }
     ensures room { IfOk result (λ written. written.size ≤ reply_room) }
@@ -125,13 +125,13 @@ fn write_flushed<F: Fingerprint, L: Lists, R: Rig>(
 ) -> Result<Written, Halt>
     requires ready { MayAnswer store.old.store 1 (R.device_size rig.old) }
     requires text { length text.old ≡ reply_room }
-    ensures crash { R.tells → (room : ℕ) (c s : State) → Kept room (F.printed store.old.print) store.old.store (R.world rig.old) c s
-        → Elapses (R.clock rig.old) (R.clock rig.new) (WithinCall (StandsBy room (F.printed store.old.print)) c s (R.world rig.old)) }
-    ensures answer { R.tells → (room : ℕ) (c s : State) → Kept room (F.printed store.old.print) store.old.store (R.world rig.old) c s
-        → IfOk result (λ written. WritesLine (F.printed store.old.print) (sizes_of store.old.store.journal.geo) (λ committed held. Kept room (F.printed store.old.print) store.new.store (R.world rig.new) committed held)
+    ensures crash { R.tells → (basis : Basis) (c s : State) → Kept basis (F.printed store.old.print) store.old.store (R.world rig.old) c s
+        → Elapses (R.clock rig.old) (R.clock rig.new) (WithinCall (StandsBy basis (F.printed store.old.print)) c s (R.world rig.old)) }
+    ensures answer { R.tells → (basis : Basis) (c s : State) → Kept basis (F.printed store.old.print) store.old.store (R.world rig.old) c s
+        → IfOk result (λ written. WritesLine (F.printed store.old.print) (sizes_of store.old.store.journal.geo) (λ committed held. Kept basis (F.printed store.old.print) store.new.store (R.world rig.new) committed held)
         (λ lines. Pays (CostsLines store.old.store store.new.store) (R.counts rig.old) (R.counts rig.new) lines 0) c s a_flush written text.new) }
-    ensures halt { R.tells → (room : ℕ) (c s : State) → Kept room (F.printed store.old.print) store.old.store (R.world rig.old) c s
-        → IfErr result (λ halt. AllStandForEither (StandsBy room (F.printed store.old.print)) c s (R.world rig.new) × CostsLines store.old.store store.new.store [] 1 (R.counts rig.old) (R.counts rig.new)) }
+    ensures halt { R.tells → (basis : Basis) (c s : State) → Kept basis (F.printed store.old.print) store.old.store (R.world rig.old) c s
+        → IfErr result (λ halt. AllStandForEither (StandsBy basis (F.printed store.old.print)) c s (R.world rig.new) × CostsLines store.old.store store.new.store [] 1 (R.counts rig.old) (R.counts rig.new)) }
     ensures cause { IfErr result (λ halt. HaltsByDevice (λ device. Unit {0}) halt (R.counts rig.old) (R.counts rig.new)) }
     ensures said { R.tells → (R.world rig.new).said ≡ (R.world rig.old).said }
     ensures room { IfOk result (λ written. written.size ≤ reply_room) }
@@ -157,13 +157,13 @@ fn write_bye<F: Fingerprint, L: Lists, R: Rig>(
 ) -> Result<Written, Halt>
     requires ready { MayAnswer store.old.store 1 (R.device_size rig.old) }
     requires text { length text.old ≡ reply_room }
-    ensures crash { R.tells → (room : ℕ) (c s : State) → Kept room (F.printed store.old.print) store.old.store (R.world rig.old) c s
-        → Elapses (R.clock rig.old) (R.clock rig.new) (WithinCall (StandsBy room (F.printed store.old.print)) c s (R.world rig.old)) }
-    ensures answer { R.tells → (room : ℕ) (c s : State) → Kept room (F.printed store.old.print) store.old.store (R.world rig.old) c s
-        → IfOk result (λ written. WritesLine (F.printed store.old.print) (sizes_of store.old.store.journal.geo) (λ committed held. Kept room (F.printed store.old.print) store.new.store (R.world rig.new) committed held)
+    ensures crash { R.tells → (basis : Basis) (c s : State) → Kept basis (F.printed store.old.print) store.old.store (R.world rig.old) c s
+        → Elapses (R.clock rig.old) (R.clock rig.new) (WithinCall (StandsBy basis (F.printed store.old.print)) c s (R.world rig.old)) }
+    ensures answer { R.tells → (basis : Basis) (c s : State) → Kept basis (F.printed store.old.print) store.old.store (R.world rig.old) c s
+        → IfOk result (λ written. WritesLine (F.printed store.old.print) (sizes_of store.old.store.journal.geo) (λ committed held. Kept basis (F.printed store.old.print) store.new.store (R.world rig.new) committed held)
         (λ lines. Pays (CostsLines store.old.store store.new.store) (R.counts rig.old) (R.counts rig.new) lines 0) c s a_quit written text.new) }
-    ensures halt { R.tells → (room : ℕ) (c s : State) → Kept room (F.printed store.old.print) store.old.store (R.world rig.old) c s
-        → IfErr result (λ halt. AllStandForEither (StandsBy room (F.printed store.old.print)) c s (R.world rig.new) × CostsLines store.old.store store.new.store [] 1 (R.counts rig.old) (R.counts rig.new)) }
+    ensures halt { R.tells → (basis : Basis) (c s : State) → Kept basis (F.printed store.old.print) store.old.store (R.world rig.old) c s
+        → IfErr result (λ halt. AllStandForEither (StandsBy basis (F.printed store.old.print)) c s (R.world rig.new) × CostsLines store.old.store store.new.store [] 1 (R.counts rig.old) (R.counts rig.new)) }
     ensures cause { IfErr result (λ halt. HaltsByDevice (λ device. Unit {0}) halt (R.counts rig.old) (R.counts rig.new)) }
     ensures said { R.tells → (R.world rig.new).said ≡ (R.world rig.old).said }
     ensures room { IfOk result (λ written. written.size ≤ reply_room) }
@@ -189,13 +189,13 @@ fn write_cleaned<F: Fingerprint, L: Lists, R: Rig>(
 ) -> Result<Written, Halt>
     requires ready { MayAnswer store.old.store 1 (R.device_size rig.old) }
     requires text { length text.old ≡ reply_room }
-    ensures crash { R.tells → (room : ℕ) (c s : State) → Kept room (F.printed store.old.print) store.old.store (R.world rig.old) c s
-        → Elapses (R.clock rig.old) (R.clock rig.new) (WithinCall (StandsBy room (F.printed store.old.print)) c s (R.world rig.old)) }
-    ensures answer { R.tells → (room : ℕ) (c s : State) → Kept room (F.printed store.old.print) store.old.store (R.world rig.old) c s
-        → IfOk result (λ written. WritesLine (F.printed store.old.print) (sizes_of store.old.store.journal.geo) (λ committed held. Kept room (F.printed store.old.print) store.new.store (R.world rig.new) committed held)
+    ensures crash { R.tells → (basis : Basis) (c s : State) → Kept basis (F.printed store.old.print) store.old.store (R.world rig.old) c s
+        → Elapses (R.clock rig.old) (R.clock rig.new) (WithinCall (StandsBy basis (F.printed store.old.print)) c s (R.world rig.old)) }
+    ensures answer { R.tells → (basis : Basis) (c s : State) → Kept basis (F.printed store.old.print) store.old.store (R.world rig.old) c s
+        → IfOk result (λ written. WritesLine (F.printed store.old.print) (sizes_of store.old.store.journal.geo) (λ committed held. Kept basis (F.printed store.old.print) store.new.store (R.world rig.new) committed held)
         (λ lines. Pays (CostsLines store.old.store store.new.store) (R.counts rig.old) (R.counts rig.new) lines 0) c s a_clean written text.new) }
-    ensures halt { R.tells → (room : ℕ) (c s : State) → Kept room (F.printed store.old.print) store.old.store (R.world rig.old) c s
-        → IfErr result (λ halt. AllStandForEither (StandsBy room (F.printed store.old.print)) c s (R.world rig.new) × CostsLines store.old.store store.new.store [] 1 (R.counts rig.old) (R.counts rig.new)) }
+    ensures halt { R.tells → (basis : Basis) (c s : State) → Kept basis (F.printed store.old.print) store.old.store (R.world rig.old) c s
+        → IfErr result (λ halt. AllStandForEither (StandsBy basis (F.printed store.old.print)) c s (R.world rig.new) × CostsLines store.old.store store.new.store [] 1 (R.counts rig.old) (R.counts rig.new)) }
     ensures cause { IfErr result (λ halt. HaltsByDevice (λ device. Unit {0}) halt (R.counts rig.old) (R.counts rig.new)) }
     ensures said { R.tells → (R.world rig.new).said ≡ (R.world rig.old).said }
     ensures room { IfOk result (λ written. written.size ≤ reply_room) }
@@ -221,13 +221,13 @@ fn write_ticked<F: Fingerprint, L: Lists, R: Rig>(
 ) -> Result<Written, Halt>
     requires ready { MayAnswer store.old.store 1 (R.device_size rig.old) }
     requires text { length text.old ≡ reply_room }
-    ensures crash { R.tells → (room : ℕ) (c s : State) → Kept room (F.printed store.old.print) store.old.store (R.world rig.old) c s
-        → Elapses (R.clock rig.old) (R.clock rig.new) (WithinCall (StandsBy room (F.printed store.old.print)) c s (R.world rig.old)) }
-    ensures answer { R.tells → (room : ℕ) (c s : State) → Kept room (F.printed store.old.print) store.old.store (R.world rig.old) c s
-        → IfOk result (λ written. WritesLine (F.printed store.old.print) (sizes_of store.old.store.journal.geo) (λ committed held. Kept room (F.printed store.old.print) store.new.store (R.world rig.new) committed held)
+    ensures crash { R.tells → (basis : Basis) (c s : State) → Kept basis (F.printed store.old.print) store.old.store (R.world rig.old) c s
+        → Elapses (R.clock rig.old) (R.clock rig.new) (WithinCall (StandsBy basis (F.printed store.old.print)) c s (R.world rig.old)) }
+    ensures answer { R.tells → (basis : Basis) (c s : State) → Kept basis (F.printed store.old.print) store.old.store (R.world rig.old) c s
+        → IfOk result (λ written. WritesLine (F.printed store.old.print) (sizes_of store.old.store.journal.geo) (λ committed held. Kept basis (F.printed store.old.print) store.new.store (R.world rig.new) committed held)
         (λ lines. Pays (CostsLines store.old.store store.new.store) (R.counts rig.old) (R.counts rig.new) lines 0) c s a_tick written text.new) }
-    ensures halt { R.tells → (room : ℕ) (c s : State) → Kept room (F.printed store.old.print) store.old.store (R.world rig.old) c s
-        → IfErr result (λ halt. AllStandForEither (StandsBy room (F.printed store.old.print)) c s (R.world rig.new) × CostsLines store.old.store store.new.store [] 1 (R.counts rig.old) (R.counts rig.new)) }
+    ensures halt { R.tells → (basis : Basis) (c s : State) → Kept basis (F.printed store.old.print) store.old.store (R.world rig.old) c s
+        → IfErr result (λ halt. AllStandForEither (StandsBy basis (F.printed store.old.print)) c s (R.world rig.new) × CostsLines store.old.store store.new.store [] 1 (R.counts rig.old) (R.counts rig.new)) }
     ensures cause { IfErr result (λ halt. HaltsByDevice (λ device. Unit {0}) halt (R.counts rig.old) (R.counts rig.new)) }
     ensures said { R.tells → (R.world rig.new).said ≡ (R.world rig.old).said }
     ensures room { IfOk result (λ written. written.size ≤ reply_room) }
@@ -288,13 +288,13 @@ pub fn write_answer<F: Fingerprint, L: Lists, R: Rig>(
     requires other { asks_lists line ≡ false }
     requires block { length block.old ≡ store.old.store.journal.geo.block }
     requires text { length text.old ≡ reply_room }
-    ensures crash { R.tells → (room : ℕ) (c s : State) → Kept room (F.printed store.old.print) store.old.store (R.world rig.old) c s
-        → Elapses (R.clock rig.old) (R.clock rig.new) (WithinCall (StandsBy room (F.printed store.old.print)) c s (R.world rig.old)) }
-    ensures answer { R.tells → (room : ℕ) (c s : State) → Kept room (F.printed store.old.print) store.old.store (R.world rig.old) c s
-        → IfOk result (λ written. WritesAnswer (F.printed store.old.print) (sizes_of store.old.store.journal.geo) (λ committed held. Kept room (F.printed store.old.print) store.new.store (R.world rig.new) committed held)
+    ensures crash { R.tells → (basis : Basis) (c s : State) → Kept basis (F.printed store.old.print) store.old.store (R.world rig.old) c s
+        → Elapses (R.clock rig.old) (R.clock rig.new) (WithinCall (StandsBy basis (F.printed store.old.print)) c s (R.world rig.old)) }
+    ensures answer { R.tells → (basis : Basis) (c s : State) → Kept basis (F.printed store.old.print) store.old.store (R.world rig.old) c s
+        → IfOk result (λ written. WritesAnswer (F.printed store.old.print) (sizes_of store.old.store.journal.geo) (λ committed held. Kept basis (F.printed store.old.print) store.new.store (R.world rig.new) committed held)
         (λ lines. Pays (CostsLines store.old.store store.new.store) (R.counts rig.old) (R.counts rig.new) lines 0) c s (told block.old line) written text.new) }
-    ensures halt { R.tells → (room : ℕ) (c s : State) → Kept room (F.printed store.old.print) store.old.store (R.world rig.old) c s
-        → IfErr result (λ halt. AllStandForEither (StandsBy room (F.printed store.old.print)) c s (R.world rig.new) × CostsLines store.old.store store.new.store [] 1 (R.counts rig.old) (R.counts rig.new)) }
+    ensures halt { R.tells → (basis : Basis) (c s : State) → Kept basis (F.printed store.old.print) store.old.store (R.world rig.old) c s
+        → IfErr result (λ halt. AllStandForEither (StandsBy basis (F.printed store.old.print)) c s (R.world rig.new) × CostsLines store.old.store store.new.store [] 1 (R.counts rig.old) (R.counts rig.new)) }
     ensures cause { IfErr result (λ halt. HaltsByDevice (λ device. Unit {0}) halt (R.counts rig.old) (R.counts rig.new)) }
     ensures said { R.tells → (R.world rig.new).said ≡ (R.world rig.old).said }
     ensures room { IfOk result (λ written. IfSome written (λ w. w.size ≤ reply_room)) }

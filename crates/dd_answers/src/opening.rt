@@ -14,7 +14,8 @@ ghost use Rattle.dd_store.specs.Meaning.{sizes_of};
 ghost use Rattle.dd_loop.specs.Ending.{SaysEnding};
 ghost use Rattle.dd_loop.specs.Saying.{IsIdle};
 ghost use Rattle.dd_answers.specs.Answering.{MayAnswer};
-ghost use Rattle.dd_answers.specs.Headline.{Begins, Headline, Promises, sizes_from};
+ghost use Rattle.dd_answers.specs.Headline.{Headline, Promises};
+ghost use Rattle.dd_recover.specs.Beginning.{Begins, sizes_from};
 ghost use Rattle.dd_answers.specs.Opening.{EndsForCause, IsUnserved, RefusesDevices, ending_of};
 ghost use Rattle.dd_answers.specs.Serving.{IsBounded, Serves};
 

@@ -16,10 +16,11 @@ use Rattle.dd_script.specs.declared.reply.Stop.{Stop}
 use Rattle.dd_script.specs.declared.reply.Stop.TheVariants as stop
 use Rattle.dd_script.proofs.LineEnds.{sum_no_end, numbered_no_end}
 use Rattle.dd_script.proofs.LineWords.{stop_acks, stop_no_end, sum_acks, bye_acks, no_acks}
+use Rattle.dd_recover.proofs.Beginning.{begins_at}
 use Rattle.dd_store.specs.declared.fault.StoreFault.{StoreFault}
 use Rattle.dd_store.specs.declared.fault.StoreFault.TheVariants as fault
 use Rattle.dd_store.specs.Keeping.{StoreView}
-use Rattle.dd_store.specs.Meaning.{Stands}
+use Rattle.dd_store.specs.Meaning.{Basis, Stands}
 use Rattle.dd_store.specs.Serving.{Faulted}
 use Rattle.dd_loop.specs.declared.ending.Ending.{Ending}
 use Rattle.dd_loop.specs.declared.ending.Ending.TheVariants.{Served, Refused, Stopped, Unheard}
@@ -38,21 +39,22 @@ use Rattle.dd_gen.proofs.Fronts.{acks_front}
 use Rattle.dd_gen.proofs.Generated.{count_grows}
 use Rattle.dd_gen.proofs.Ran.{within_either, all_within}
 
-module _ (room : ℕ) (print : List ℕ → Fp) (sizes : Sizes) (start : State) (seed count : ℕ) (said : List ℕ) where
+module _ (basis : Basis) (print : List ℕ → Fp) (sizes : Sizes) (start : State) (seed count : ℕ) (said : List ℕ) where
   -- nothing was said
-  pub leaves_unsaid : (o : Outcome) → StandsWithin room print sizes start seed count o.flash o.disk → o.out ≡ said → LeavesGenerated room print sizes start seed count said o
+  pub leaves_unsaid : (o : Outcome) → StandsWithin basis print sizes start seed count o.flash o.disk → o.out ≡ said → LeavesGenerated basis print sizes start seed count said o
   leaves_unsaid o h is = record {
     output = [];
     out = is ∙ sym (append-nil said);
     k = h.k;
     few = h.few;
     stands = h.stands;
+    again = begins_at basis print (state_at print sizes start seed h.k) o.flash o.disk h.stands;
     acknowledges = count_grows sizes start (generated sizes seed h.k);
     part = inl (last_lines print sizes start seed count, refl);
   }
 
   -- a part of the line that stops the run was said
-  pub leaves_stopped : (why : Stop) (n : ℕ) (o : Outcome) → StandsWithin room print sizes start seed count o.flash o.disk → o.out ≡ said ++ take n (ended (stop_text why)) → LeavesGenerated room print sizes start seed count said o
+  pub leaves_stopped : (why : Stop) (n : ℕ) (o : Outcome) → StandsWithin basis print sizes start seed count o.flash o.disk → o.out ≡ said ++ take n (ended (stop_text why)) → LeavesGenerated basis print sizes start seed count said o
   leaves_stopped why n o h is =
       let line : List ℕ = ended (stop_text why) in
       let whole : line ≡ take n line ++ drop n line = sym (take-append-drop n line) in
@@ -62,6 +64,7 @@ module _ (room : ℕ) (print : List ℕ → Fp) (sizes : Sizes) (start : State) 
         k = h.k;
         few = h.few;
         stands = h.stands;
+        again = begins_at basis print (state_at print sizes start seed h.k) o.flash o.disk h.stands;
         acknowledges = omega (
           arith,
           count_grows sizes start (generated sizes seed h.k),
@@ -71,8 +74,8 @@ module _ (room : ℕ) (print : List ℕ → Fp) (sizes : Sizes) (start : State) 
       }
 
   -- a part of both last lines was said, or all of them
-  pub leaves_said : (o : Outcome) → (state_at print sizes start seed count).count < 2 ^ 64 → Stands room print o.flash o.disk (state_at print sizes start seed count) → SaysFront (last_lines print sizes start seed count) said o.out
-      → LeavesGenerated room print sizes start seed count said o
+  pub leaves_said : (o : Outcome) → (state_at print sizes start seed count).count < 2 ^ 64 → Stands basis print o.flash o.disk (state_at print sizes start seed count) → SaysFront (last_lines print sizes start seed count) said o.out
+      → LeavesGenerated basis print sizes start seed count said o
   leaves_said o fits stands f =
       let sums = sums_at print sizes start seed count in
       let all : ℕ = (state_at print sizes start seed count).count in
@@ -84,6 +87,7 @@ module _ (room : ℕ) (print : List ℕ → Fp) (sizes : Sizes) (start : State) 
         k = count;
         few = omega arith;
         stands = stands;
+        again = begins_at basis print (state_at print sizes start seed count) o.flash o.disk stands;
         acknowledges = acks_front start.count all (sum_line ∷ bye_line ∷ []) f.0 (count_grows sizes start (generated sizes seed count))
             (sum_no_end sums, (numbered_no_end (codes "bye ") all (search rules), tt))
             (no_acks sum_line all (sum_acks sums), (bye_acks all all fits (omega arith), tt))
@@ -92,15 +96,15 @@ module _ (room : ℕ) (print : List ℕ → Fp) (sizes : Sizes) (start : State) 
       }
 
   -- a crash within the last line
-  pub last_within : (ending : Ending) (middle : World) → RunEnds room print sizes start seed count ending said middle → (o : Outcome) → WithinLast (ending_line ending) middle o → LeavesGenerated room print sizes start seed count said o
+  pub last_within : (ending : Ending) (middle : World) → RunEnds basis print sizes start seed count ending said middle → (o : Outcome) → WithinLast (ending_line ending) middle o → LeavesGenerated basis print sizes start seed count said o
   last_within (Served faulted) middle h o w = absurd w
   last_within (Refused why) middle h o w = absurd h
   last_within (Stopped why) middle h o w = leaves_stopped why w.0 o (h.1 o.flash o.disk w.1.flash w.1.disk) (w.1.out ∙ ap (λ (l : List ℕ). l ++ take w.0 (ended (stop_text why))) h.0)
   last_within Unheard middle h o w = absurd w
 
   -- and behind it
-  pub last_behind : (ending : Ending) (middle new : World) (between after : Counts) → RunEnds room print sizes start seed count ending said middle → SaysLast (ending_line ending) between after middle new
-      → new.flash ≡ middle.flash → new.disk ≡ middle.disk → (o : Outcome) → MayLeave new o → LeavesGenerated room print sizes start seed count said o
+  pub last_behind : (ending : Ending) (middle new : World) (between after : Counts) → RunEnds basis print sizes start seed count ending said middle → SaysLast (ending_line ending) between after middle new
+      → new.flash ≡ middle.flash → new.disk ≡ middle.disk → (o : Outcome) → MayLeave new o → LeavesGenerated basis print sizes start seed count said o
   last_behind (Served faulted) middle new between after h says flash disk o may =
       h.1 o (record { flash = subst (λ (d : Device). IsImage d o.flash) flash may.flash; disk = subst (λ (d : Device). IsImage d o.disk) disk may.disk; out = may.out ∙ says })
   last_behind (Refused why) middle new between after h says flash disk o may = absurd h
@@ -112,39 +116,39 @@ module _ (room : ℕ) (print : List ℕ → Fp) (sizes : Sizes) (start : State) 
       h.1 o (record { flash = subst (λ (d : Device). IsImage d o.flash) flash may.flash; disk = subst (λ (d : Device). IsImage d o.disk) disk may.disk; out = may.out ∙ says })
 
   -- within the last commit and behind it
-  pub leaves_within : (sums : Sums) → sums ≡ sums_at print sizes start seed count → (store : StoreView) (world : World) (h : Holding room print sizes start seed count store world) → (state_at print sizes start seed count).count < 2 ^ 64
-      → (o : Outcome) → WithinCommit room print (state_at print sizes start seed h.k) (state_at print sizes start seed count) sums said o → LeavesGenerated room print sizes start seed count said o
-  leaves_within sums is store world h fits o (inl before) = leaves_unsaid o (within_either room print sizes start seed count count (omega arith) store world h o.flash o.disk before.0) before.1
+  pub leaves_within : (sums : Sums) → sums ≡ sums_at print sizes start seed count → (store : StoreView) (world : World) (h : Holding basis print sizes start seed count store world) → (state_at print sizes start seed count).count < 2 ^ 64
+      → (o : Outcome) → WithinCommit basis print (state_at print sizes start seed h.k) (state_at print sizes start seed count) sums said o → LeavesGenerated basis print sizes start seed count said o
+  leaves_within sums is store world h fits o (inl before) = leaves_unsaid o (within_either basis print sizes start seed count count (omega arith) store world h o.flash o.disk before.0) before.1
   leaves_within sums is store world h fits o (inr behind) =
       leaves_said o fits behind.0 (subst (λ (x : Sums). SaysFront (both_lines x (state_at print sizes start seed count).count) said o.out) is behind.1)
 
   -- where both lines are said, or a part of them
-  all_leave : (new : World) → (state_at print sizes start seed count).count < 2 ^ 64 → AllStand (StandsBy room print) new (state_at print sizes start seed count) → SaysFront (last_lines print sizes start seed count) said new.said
-      → (o : Outcome) → MayLeave new o → LeavesGenerated room print sizes start seed count said o
+  all_leave : (new : World) → (state_at print sizes start seed count).count < 2 ^ 64 → AllStand (StandsBy basis print) new (state_at print sizes start seed count) → SaysFront (last_lines print sizes start seed count) said new.said
+      → (o : Outcome) → MayLeave new o → LeavesGenerated basis print sizes start seed count said o
   all_leave new fits stands f o may = leaves_said o fits (stands o.flash o.disk may.flash may.disk) (f.0, may.out ∙ f.1, f.2)
 
   whole_front : (text : List ℕ) → IsFront text text
   whole_front text = ([], sym (append-nil text))
 
-  run_ends : (store : StoreView) (world : World) (h : Holding room print sizes start seed count store world) → (state_at print sizes start seed count).count < 2 ^ 64 → (ending : Ending) (new : World)
-      → CommitEnds room print (state_at print sizes start seed h.k) (state_at print sizes start seed count) (sums_at print sizes start seed count) ending said new → RunEnds room print sizes start seed count ending said new
+  run_ends : (store : StoreView) (world : World) (h : Holding basis print sizes start seed count store world) → (state_at print sizes start seed count).count < 2 ^ 64 → (ending : Ending) (new : World)
+      → CommitEnds basis print (state_at print sizes start seed h.k) (state_at print sizes start seed count) (sums_at print sizes start seed count) ending said new → RunEnds basis print sizes start seed count ending said new
   run_ends store world h fits (Served faulted) new ends = (ends.1, all_leave new fits ends.0 (last_lines print sizes start seed count, ends.1.1, whole_front (last_lines print sizes start seed count)))
   run_ends store world h fits (Refused why) new ends = absurd ends.1
-  run_ends store world h fits (Stopped why) new ends = (ends.1, all_within room print sizes start seed count count (omega arith) store world new h ends.0)
+  run_ends store world h fits (Stopped why) new ends = (ends.1, all_within basis print sizes start seed count count (omega arith) store world new h ends.0)
   run_ends store world h fits Unheard new ends = (ends.1, all_leave new fits ends.0 ends.1)
 
-  pub leaves_behind : (sums : Sums) → sums ≡ sums_at print sizes start seed count → (store : StoreView) (world : World) (h : Holding room print sizes start seed count store world) → (state_at print sizes start seed count).count < 2 ^ 64 → (ending : Ending) (new : World)
-      → CommitEnds room print (state_at print sizes start seed h.k) (state_at print sizes start seed count) sums ending said new → RunEnds room print sizes start seed count ending said new
+  pub leaves_behind : (sums : Sums) → sums ≡ sums_at print sizes start seed count → (store : StoreView) (world : World) (h : Holding basis print sizes start seed count store world) → (state_at print sizes start seed count).count < 2 ^ 64 → (ending : Ending) (new : World)
+      → CommitEnds basis print (state_at print sizes start seed h.k) (state_at print sizes start seed count) sums ending said new → RunEnds basis print sizes start seed count ending said new
   leaves_behind sums is store world h fits ending new ends =
-      run_ends store world h fits ending new (subst (λ (x : Sums). CommitEnds room print (state_at print sizes start seed h.k) (state_at print sizes start seed count) x ending said new) is ends)
+      run_ends store world h fits ending new (subst (λ (x : Sums). CommitEnds basis print (state_at print sizes start seed h.k) (state_at print sizes start seed count) x ending said new) is ends)
 
 -- what was said in all
-pub last_tells : (room : ℕ) (print : List ℕ → Fp) (sizes : Sizes) (start : State) (seed count : ℕ) (ending : Ending) (old middle new : World) (before between after : Counts) → NeverFalls before between
-    → RunEnds room print sizes start seed count ending old.said middle → SaysLast (ending_line ending) between after middle new → Tells print sizes start seed count ending before after old new
-last_tells room print sizes start seed count (Served faulted) old middle new before between after falls h says = says ∙ h.0.1
-last_tells room print sizes start seed count (Refused why) old middle new before between after falls h says = absurd h
-last_tells room print sizes start seed count (Stopped why) old middle new before between after falls h says = alone_since (stop_text why) before between after old middle new falls h.0 says
-last_tells room print sizes start seed count Unheard old middle new before between after falls h says = (h.0.0, says ∙ h.0.1, h.0.2)
+pub last_tells : (basis : Basis) (print : List ℕ → Fp) (sizes : Sizes) (start : State) (seed count : ℕ) (ending : Ending) (old middle new : World) (before between after : Counts) → NeverFalls before between
+    → RunEnds basis print sizes start seed count ending old.said middle → SaysLast (ending_line ending) between after middle new → Tells print sizes start seed count ending before after old new
+last_tells basis print sizes start seed count (Served faulted) old middle new before between after falls h says = says ∙ h.0.1
+last_tells basis print sizes start seed count (Refused why) old middle new before between after falls h says = absurd h
+last_tells basis print sizes start seed count (Stopped why) old middle new before between after falls h says = alone_since (stop_text why) before between after old middle new falls h.0 says
+last_tells basis print sizes start seed count Unheard old middle new before between after falls h says = (h.0.0, says ∙ h.0.1, h.0.2)
 
 -- a cause stays one between other calls
 pub caused_amid : (some more : Type 0) → (some → more) → (ending : Ending) (a b c d : Counts) → NeverFalls a b → NeverFalls c d → Caused some ending b c → Caused more ending a d
@@ -167,11 +171,11 @@ stopped_memory fault.FlashWrite = λ e. absurd (cc e)
 stopped_memory fault.DiskWrite = λ e. absurd (cc e)
 
 -- how the last commit ends behind which both lines are the last
-pub commit_ended : (room : ℕ) (print : List ℕ → Fp) (c s : State) (sums : Sums) (ending : Ending) (said : List ℕ) (new : World) → SaysEnd ending (both_lines sums s.count) said new.said → AllStand (StandsBy room print) new s → CommitEnds room print c s sums ending said new
-commit_ended room print c s sums (Served faulted) said new says stands = (stands, says)
-commit_ended room print c s sums (Refused why) said new says stands = absurd says
-commit_ended room print c s sums (Stopped why) said new says stands = absurd says
-commit_ended room print c s sums Unheard said new says stands = (stands, says)
+pub commit_ended : (basis : Basis) (print : List ℕ → Fp) (c s : State) (sums : Sums) (ending : Ending) (said : List ℕ) (new : World) → SaysEnd ending (both_lines sums s.count) said new.said → AllStand (StandsBy basis print) new s → CommitEnds basis print c s sums ending said new
+commit_ended basis print c s sums (Served faulted) said new says stands = (stands, says)
+commit_ended basis print c s sums (Refused why) said new says stands = absurd says
+commit_ended basis print c s sums (Stopped why) said new says stands = absurd says
+commit_ended basis print c s sums Unheard said new says stands = (stands, says)
 
 -- a call of the store that failed
 pub stopped_cause : (f : StoreFault) (a b : Counts) → Faulted f a b → Caused ⊥ (Stopped (stopped_by f)) a b

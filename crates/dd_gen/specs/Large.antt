@@ -10,7 +10,7 @@ use Rattle.dd_script.specs.Text.{ended, sum_text, bye_text, stop_text}
 use Rattle.dd_script.specs.declared.reply.Stop.{Stop}
 use Rattle.dd_script.specs.declared.reply.Sums.{Sums}
 use Rattle.dd_script.specs.declared.reply.Stop.TheVariants as stop
-use Rattle.dd_store.specs.Meaning.{Stands}
+use Rattle.dd_store.specs.Meaning.{Basis, Stands}
 use Rattle.dd_store.specs.declared.fault.StoreFault.{StoreFault}
 use Rattle.dd_store.specs.declared.fault.StoreFault.TheVariants as fault
 use Rattle.dd_loop.specs.declared.ending.Ending.{Ending}
@@ -19,7 +19,8 @@ use Rattle.dd_loop.specs.Ending.{status_of}
 use Rattle.dd_loop.specs.Saying.{SaysAlone}
 use Rattle.dd_loop.specs.Standing.{AllStand, AllStandForEither, StandForEither}
 use Rattle.dd_answers.specs.Answering.{StandsBy}
-use Rattle.dd_answers.specs.Headline.{Begins, IsUnopened, pace_from, sizes_from}
+use Rattle.dd_answers.specs.Headline.{IsUnopened}
+use Rattle.dd_recover.specs.Beginning.{Begins, BeginsAt, basis_from, sizes_from}
 use Rattle.dd_gen.specs.Running.{state_at, sums_at, AllStandWithin}
 
 -- the text goes on behind these bytes, or it ends there
@@ -56,14 +57,14 @@ stopped_by fault.DiskRead = stop.Disk
 stopped_by fault.DiskWrite = stop.Disk
 
 -- A crash within the last commit or behind it: one of two states and nothing said, or the state held and a part of both lines.
-abbrev pub WithinCommit : (room : ℕ) → (List ℕ → Fp) → (c s : State) → Sums → (said : List ℕ) → Outcome → Type 0
-WithinCommit room print c s sums said o =
-    (StandForEither (StandsBy room print) c s o.flash o.disk × (o.out ≡ said)) ⊎ (Stands room print o.flash o.disk s × SaysFront (both_lines sums s.count) said o.out)
+abbrev pub WithinCommit : (basis : Basis) → (List ℕ → Fp) → (c s : State) → Sums → (said : List ℕ) → Outcome → Type 0
+WithinCommit basis print c s sums said o =
+    (StandForEither (StandsBy basis print) c s o.flash o.disk × (o.out ≡ said)) ⊎ (Stands basis print o.flash o.disk s × SaysFront (both_lines sums s.count) said o.out)
 
 -- and where it ends so
-abbrev pub CommitEnds : (room : ℕ) → (List ℕ → Fp) → (c s : State) → Sums → Ending → (said : List ℕ) → World → Type 0
-CommitEnds room print c s sums (Stopped why) said new = AllStandForEither (StandsBy room print) c s new × (new.said ≡ said)
-CommitEnds room print c s sums ending said new = AllStand (StandsBy room print) new s × SaysEnd ending (both_lines sums s.count) said new.said
+abbrev pub CommitEnds : (basis : Basis) → (List ℕ → Fp) → (c s : State) → Sums → Ending → (said : List ℕ) → World → Type 0
+CommitEnds basis print c s sums (Stopped why) said new = AllStandForEither (StandsBy basis print) c s new × (new.said ≡ said)
+CommitEnds basis print c s sums ending said new = AllStand (StandsBy basis print) new s × SaysEnd ending (both_lines sums s.count) said new.said
 
 -- A run of so many of the commands that a seed generates, from the state at its start.
 module _ (print : List ℕ → Fp) (sizes : Sizes) (start : State) (seed count : ℕ) where
@@ -79,7 +80,7 @@ module _ (print : List ℕ → Fp) (sizes : Sizes) (start : State) (seed count :
   Tells Unheard before after old new = SaysFront last_lines old.said new.said
 
 -- and what a crash leaves of it, while the epoch keeps its pace
-module _ (room : ℕ) (print : List ℕ → Fp) (sizes : Sizes) (start : State) (seed count : ℕ) where
+module _ (basis : Basis) (print : List ℕ → Fp) (sizes : Sizes) (start : State) (seed count : ℕ) where
   -- The two devices stand for the array and both lists behind some first part of the generated commands, no shorter than what the output
   -- acknowledges; and the output is a part of the two lines, or of the line that says why the run stopped. It reads the outcome's own
   -- output, so it is the same property at each moment of a run.
@@ -90,7 +91,9 @@ module _ (room : ℕ) (print : List ℕ → Fp) (sizes : Sizes) (start : State) 
     -- how many of the commands the devices have
     pub k : ℕ
     pub few : k ≤ count
-    pub stands : Stands room print o.flash o.disk (state_at print sizes start seed k)
+    -- on the basis of the start, so the next run begins with that state
+    pub stands : Stands basis print o.flash o.disk (state_at print sizes start seed k)
+    pub again : BeginsAt basis print (state_at print sizes start seed k) o.flash o.disk
     pub acknowledges : acknowledged start.count output ≤ (state_at print sizes start seed k).count
     pub part : IsFront output (last_lines print sizes start seed count) ⊎ ((why : Stop) × IsFront output (ended (stop_text why)))
 
@@ -102,7 +105,7 @@ module _ (room : ℕ) (print : List ℕ → Fp) (sizes : Sizes) (start : State) 
   abbrev pub RunEnds : Ending → (said : List ℕ) → (new : World) → Type 0
   RunEnds (Served faulted) said new = SaysEnd (Served faulted) (last_lines print sizes start seed count) said new.said × AllLeaveGenerated said new
   RunEnds (Refused why) said new = ⊥
-  RunEnds (Stopped why) said new = (new.said ≡ said) × AllStandWithin room print sizes start seed count new
+  RunEnds (Stopped why) said new = (new.said ≡ said) × AllStandWithin basis print sizes start seed count new
   RunEnds Unheard said new = SaysFront (last_lines print sizes start seed count) said new.said × AllLeaveGenerated said new
 
 -- Why a large run ends, on every rig: which count rose. A failed read stops it, too. It is refused in the opening alone.
@@ -128,4 +131,4 @@ pub record TellsSums (print : List ℕ → Fp) (sizes : Sizes) (start : State) (
 
 -- the promise on crashes: nothing was opened yet, or the devices stand for the state behind some first part of the commands
 abbrev pub Promises : {print : List ℕ → Fp} {world : World} → Begins print world → (seed count : ℕ) → Outcome → Type 0
-Promises {print} {world} from seed count o = IsUnopened world o ⊎ LeavesGenerated (pace_from from) print (sizes_from from) from.start seed count world.said o
+Promises {print} {world} from seed count o = IsUnopened world o ⊎ LeavesGenerated (basis_from from) print (sizes_from from) from.start seed count world.said o

@@ -9,7 +9,7 @@ use Rattle.dd_model.specs.Reference.{Tells, read_answer, write_answer}
 use Rattle.dd_script.specs.Command.{Command, read, write, flush, tick, after_all}
 use Rattle.dd_script.specs.declared.reply.Sums.{Sums}
 use Rattle.dd_store.specs.Keeping.{StoreView, Kept}
-use Rattle.dd_store.specs.Meaning.{Stands}
+use Rattle.dd_store.specs.Meaning.{Basis, Stands}
 use Rattle.dd_gen.specs.Generator.{generated}
 use Rattle.dd_gen.specs.Sums.{sums_of, no_sums}
 
@@ -32,12 +32,12 @@ module _ (print : List ℕ → Fp) (sizes : Sizes) (start : State) (seed : ℕ) 
   sums_at n = sums_of sizes start (generated sizes seed n) no_sums
 
 -- and what is left and held of it, while the epoch keeps its pace
-module _ (room : ℕ) (print : List ℕ → Fp) (sizes : Sizes) (start : State) (seed : ℕ) where
+module _ (basis : Basis) (print : List ℕ → Fp) (sizes : Sizes) (start : State) (seed : ℕ) where
   -- the devices stand for the state behind some of the first n
   pub record StandsWithin (n : ℕ) (flash disk : List ℕ) : Type 0 where
     pub k : ℕ
     pub few : k ≤ n
-    pub stands : Stands room print flash disk (state_at print sizes start seed k)
+    pub stands : Stands basis print flash disk (state_at print sizes start seed k)
 
   -- and so does whatever a crash leaves now
   abbrev pub AllStandWithin : ℕ → World → Type 0
@@ -47,4 +47,4 @@ module _ (room : ℕ) (print : List ℕ → Fp) (sizes : Sizes) (start : State) 
   pub record Holding (n : ℕ) (store : StoreView) (world : World) : Type 0 where
     pub k : ℕ
     pub few : k ≤ n
-    pub kept : Kept room print store world (state_at print sizes start seed k) (state_at print sizes start seed n)
+    pub kept : Kept basis print store world (state_at print sizes start seed k) (state_at print sizes start seed n)

@@ -8,12 +8,12 @@ ghost use Rattle.dd_model.specs.State.{State};
 ghost use Rattle.dd_script.specs.declared.reply.Stop.TheVariants.{Memory};
 ghost use Rattle.dd_recover.specs.Opening.{IsFirstFault};
 ghost use Rattle.dd_store.specs.Keeping.{Kept};
-ghost use Rattle.dd_store.specs.Meaning.{sizes_of};
+ghost use Rattle.dd_store.specs.Meaning.{Basis, sizes_of};
 ghost use Rattle.dd_loop.specs.declared.ending.Ending.TheVariants.{Stopped};
 ghost use Rattle.dd_loop.specs.Ending.{SaysEnding};
 ghost use Rattle.dd_loop.specs.Saying.{IsIdle, SaysMore};
 ghost use Rattle.dd_answers.specs.Answering.{MayAnswer};
-ghost use Rattle.dd_answers.specs.Headline.{Begins, sizes_from};
+ghost use Rattle.dd_recover.specs.Beginning.{Begins, sizes_from};
 ghost use Rattle.dd_answers.specs.Opening.{IsUnserved, RefusesDevices};
 ghost use Rattle.dd_gen.specs.Large.{Caused, EndsForCause, LeavesGenerated, Promises, RunEnds, TellsSums, WithinCommit, CommitEnds, stopped_by};
 
@@ -78,11 +78,11 @@ fn end_store<F: Fingerprint, L: Lists, R: Rig>(
     rig: &mut R,
 ) -> u8
     requires ready { MayAnswer store.store (count + 1) (R.device_size rig.old) }
-    ensures crash { R.tells → (room : ℕ) (start : State) → Kept room (F.printed store.print) store.store (R.world rig.old) start start
-        → Elapses (R.clock rig.old) (R.clock rig.new) (LeavesGenerated room (F.printed store.print) (sizes_of store.store.journal.geo) start seed count (R.world rig.old).said) }
-    ensures left { R.tells → (room : ℕ) (start : State) → Kept room (F.printed store.print) store.store (R.world rig.old) start start
-        → (o : Outcome) → MayLeave (R.world rig.new) o → LeavesGenerated room (F.printed store.print) (sizes_of store.store.journal.geo) start seed count (R.world rig.old).said o }
-    ensures tells { R.tells → (room : ℕ) (start : State) → Kept room (F.printed store.print) store.store (R.world rig.old) start start
+    ensures crash { R.tells → (basis : Basis) (start : State) → Kept basis (F.printed store.print) store.store (R.world rig.old) start start
+        → Elapses (R.clock rig.old) (R.clock rig.new) (LeavesGenerated basis (F.printed store.print) (sizes_of store.store.journal.geo) start seed count (R.world rig.old).said) }
+    ensures left { R.tells → (basis : Basis) (start : State) → Kept basis (F.printed store.print) store.store (R.world rig.old) start start
+        → (o : Outcome) → MayLeave (R.world rig.new) o → LeavesGenerated basis (F.printed store.print) (sizes_of store.store.journal.geo) start seed count (R.world rig.old).said o }
+    ensures tells { R.tells → (basis : Basis) (start : State) → Kept basis (F.printed store.print) store.store (R.world rig.old) start start
         → TellsSums (F.printed store.print) (sizes_of store.store.journal.geo) start seed count result (R.counts rig.old) (R.counts rig.new) (R.world rig.old) (R.world rig.new) }
     ensures caused { EndsForCause ⊥ (λ ending. R.tells → SaysEnding ending (R.counts rig.old) (R.counts rig.new) (R.world rig.old) (R.world rig.new)) result (R.counts rig.old) (R.counts rig.new) }
     ensures opened { (result ≢ 2) × (result ≢ 3) }
@@ -103,10 +103,10 @@ fn run_store<F: Fingerprint, L: Lists, R: Rig>(
     rig: &mut R,
 ) -> Ending
     requires ready { MayAnswer store.store (count + 1) (R.device_size rig.old) }
-    ensures crash { R.tells → (room : ℕ) (start : State) → Kept room (F.printed store.print) store.store (R.world rig.old) start start
-        → Elapses (R.clock rig.old) (R.clock rig.new) (LeavesGenerated room (F.printed store.print) (sizes_of store.store.journal.geo) start seed count (R.world rig.old).said) }
-    ensures ends { R.tells → (room : ℕ) (start : State) → Kept room (F.printed store.print) store.store (R.world rig.old) start start
-        → RunEnds room (F.printed store.print) (sizes_of store.store.journal.geo) start seed count result (R.world rig.old).said (R.world rig.new) }
+    ensures crash { R.tells → (basis : Basis) (start : State) → Kept basis (F.printed store.print) store.store (R.world rig.old) start start
+        → Elapses (R.clock rig.old) (R.clock rig.new) (LeavesGenerated basis (F.printed store.print) (sizes_of store.store.journal.geo) start seed count (R.world rig.old).said) }
+    ensures ends { R.tells → (basis : Basis) (start : State) → Kept basis (F.printed store.print) store.store (R.world rig.old) start start
+        → RunEnds basis (F.printed store.print) (sizes_of store.store.journal.geo) start seed count result (R.world rig.old).said (R.world rig.new) }
     ensures caused { Caused ⊥ result (R.counts rig.old) (R.counts rig.new) }
     ensures memory { result ≡ Stopped Memory → rig.new ≡ rig.old }
     ensures more { R.tells → SaysMore (R.world rig.old) (R.world rig.new) }
@@ -130,10 +130,10 @@ fn commit<F: Fingerprint, L: Lists, R: Rig>(
     sums: Sums,
 ) -> Ending
     requires ready { MayAnswer store.store 1 (R.device_size rig.old) }
-    ensures crash { R.tells → (room : ℕ) (c s : State) → Kept room (F.printed store.print) store.store (R.world rig.old) c s
-        → Elapses (R.clock rig.old) (R.clock rig.new) (WithinCommit room (F.printed store.print) c s sums (R.world rig.old).said) }
-    ensures ends { R.tells → (room : ℕ) (c s : State) → Kept room (F.printed store.print) store.store (R.world rig.old) c s
-        → CommitEnds room (F.printed store.print) c s sums result (R.world rig.old).said (R.world rig.new) }
+    ensures crash { R.tells → (basis : Basis) (c s : State) → Kept basis (F.printed store.print) store.store (R.world rig.old) c s
+        → Elapses (R.clock rig.old) (R.clock rig.new) (WithinCommit basis (F.printed store.print) c s sums (R.world rig.old).said) }
+    ensures ends { R.tells → (basis : Basis) (c s : State) → Kept basis (F.printed store.print) store.store (R.world rig.old) c s
+        → CommitEnds basis (F.printed store.print) c s sums result (R.world rig.old).said (R.world rig.new) }
     ensures caused { Caused ⊥ result (R.counts rig.old) (R.counts rig.new) }
     ensures memory { result ≢ Stopped Memory }
     ensures more { R.tells → SaysMore (R.world rig.old) (R.world rig.new) }

@@ -5,7 +5,7 @@ ghost use Rattle.dd_rig.specs.Counts.{Frame};
 ghost use Rattle.dd_model.specs.State.{State};
 ghost use Rattle.dd_script.specs.Command.{after};
 ghost use Rattle.dd_store.specs.Keeping.{Kept};
-ghost use Rattle.dd_store.specs.Meaning.{sizes_of};
+ghost use Rattle.dd_store.specs.Meaning.{Basis, sizes_of};
 ghost use Rattle.dd_store.specs.Serving.{Faulted, GoesOn};
 ghost use Rattle.dd_loop.specs.Standing.{AllStandForEither, WithinCall};
 ghost use Rattle.dd_answers.specs.Answering.{MayAnswer, StandsBy};
@@ -33,14 +33,14 @@ pub(crate) fn run_commands<F: Fingerprint, L: Lists, R: Rig>(
 ) -> Result<Sums, StoreFault>
     requires ready { MayAnswer store.old.store (count + 1) (R.device_size rig.old) }
     requires block { length block.old ≡ store.old.store.journal.geo.block }
-    ensures crash { R.tells → (room : ℕ) (start : State) → Kept room (F.printed store.old.print) store.old.store (R.world rig.old) start start
-        → Elapses (R.clock rig.old) (R.clock rig.new) (λ o. StandsWithin room (F.printed store.old.print) (sizes_of store.old.store.journal.geo) start seed count o.flash o.disk × (o.out ≡ (R.world rig.old).said)) }
-    ensures holds { R.tells → (room : ℕ) (start : State) → Kept room (F.printed store.old.print) store.old.store (R.world rig.old) start start
-        → OnOk result (Holding room (F.printed store.old.print) (sizes_of store.old.store.journal.geo) start seed count store.new.store (R.world rig.new)) }
-    ensures sums { R.tells → (room : ℕ) (start : State) → Kept room (F.printed store.old.print) store.old.store (R.world rig.old) start start
+    ensures crash { R.tells → (basis : Basis) (start : State) → Kept basis (F.printed store.old.print) store.old.store (R.world rig.old) start start
+        → Elapses (R.clock rig.old) (R.clock rig.new) (λ o. StandsWithin basis (F.printed store.old.print) (sizes_of store.old.store.journal.geo) start seed count o.flash o.disk × (o.out ≡ (R.world rig.old).said)) }
+    ensures holds { R.tells → (basis : Basis) (start : State) → Kept basis (F.printed store.old.print) store.old.store (R.world rig.old) start start
+        → OnOk result (Holding basis (F.printed store.old.print) (sizes_of store.old.store.journal.geo) start seed count store.new.store (R.world rig.new)) }
+    ensures sums { R.tells → (basis : Basis) (start : State) → Kept basis (F.printed store.old.print) store.old.store (R.world rig.old) start start
         → IfOk result (λ sums. sums ≡ sums_at (F.printed store.old.print) (sizes_of store.old.store.journal.geo) start seed count) }
-    ensures stops { R.tells → (room : ℕ) (start : State) → Kept room (F.printed store.old.print) store.old.store (R.world rig.old) start start
-        → OnErr result (AllStandWithin room (F.printed store.old.print) (sizes_of store.old.store.journal.geo) start seed count (R.world rig.new)) }
+    ensures stops { R.tells → (basis : Basis) (start : State) → Kept basis (F.printed store.old.print) store.old.store (R.world rig.old) start start
+        → OnErr result (AllStandWithin basis (F.printed store.old.print) (sizes_of store.old.store.journal.geo) start seed count (R.world rig.new)) }
     ensures said { R.tells → (R.world rig.new).said ≡ (R.world rig.old).said }
     ensures cause { IfErr result (λ fault. Faulted fault (R.counts rig.old) (R.counts rig.new)) }
     ensures ready { OnOk result (MayAnswer store.new.store 1 (R.device_size rig.new)) }
@@ -70,14 +70,14 @@ fn run_one<F: Fingerprint, L: Lists, R: Rig>(
     requires ready { MayAnswer store.old.store 1 (R.device_size rig.old) }
     requires block { length block.old ≡ store.old.store.journal.geo.block }
     requires room { AreBelow 4294967295 sums }
-    ensures crash { R.tells → (room : ℕ) (c s : State) → Kept room (F.printed store.old.print) store.old.store (R.world rig.old) c s
-        → Elapses (R.clock rig.old) (R.clock rig.new) (WithinCall (StandsBy room (F.printed store.old.print)) c s (R.world rig.old)) }
-    ensures goes { R.tells → (room : ℕ) (c s : State) → Kept room (F.printed store.old.print) store.old.store (R.world rig.old) c s
-        → OnOk result (GoesOn room (F.printed store.old.print) c s store.new.store (R.world rig.new) (after (sizes_of store.old.store.journal.geo) s (drawn (sizes_of store.old.store.journal.geo) commands.old.numbers.x).command)) }
-    ensures counts { R.tells → (room : ℕ) (c s : State) → Kept room (F.printed store.old.print) store.old.store (R.world rig.old) c s
+    ensures crash { R.tells → (basis : Basis) (c s : State) → Kept basis (F.printed store.old.print) store.old.store (R.world rig.old) c s
+        → Elapses (R.clock rig.old) (R.clock rig.new) (WithinCall (StandsBy basis (F.printed store.old.print)) c s (R.world rig.old)) }
+    ensures goes { R.tells → (basis : Basis) (c s : State) → Kept basis (F.printed store.old.print) store.old.store (R.world rig.old) c s
+        → OnOk result (GoesOn basis (F.printed store.old.print) c s store.new.store (R.world rig.new) (after (sizes_of store.old.store.journal.geo) s (drawn (sizes_of store.old.store.journal.geo) commands.old.numbers.x).command)) }
+    ensures counts { R.tells → (basis : Basis) (c s : State) → Kept basis (F.printed store.old.print) store.old.store (R.world rig.old) c s
         → IfOk result (λ counted. counted ≡ counted_by (sizes_of store.old.store.journal.geo) s (drawn (sizes_of store.old.store.journal.geo) commands.old.numbers.x).command sums) }
-    ensures stops { R.tells → (room : ℕ) (c s : State) → Kept room (F.printed store.old.print) store.old.store (R.world rig.old) c s
-        → OnErr result (AllStandForEither (StandsBy room (F.printed store.old.print)) c s (R.world rig.new)) }
+    ensures stops { R.tells → (basis : Basis) (c s : State) → Kept basis (F.printed store.old.print) store.old.store (R.world rig.old) c s
+        → OnErr result (AllStandForEither (StandsBy basis (F.printed store.old.print)) c s (R.world rig.new)) }
     ensures state { commands.new.numbers.x ≡ (drawn (sizes_of store.old.store.journal.geo) commands.old.numbers.x).state }
     ensures below { IfOk result (λ counted. (n : ℕ) → AreBelow n sums → AreBelow (n + 1) counted) }
     ensures said { R.tells → (R.world rig.new).said ≡ (R.world rig.old).said }

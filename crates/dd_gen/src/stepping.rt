@@ -5,7 +5,7 @@ ghost use Rattle.dd_rig.specs.Counts.{Frame};
 ghost use Rattle.dd_model.specs.State.{State};
 ghost use Rattle.dd_script.specs.Command.{after, read, write, tick, flush};
 ghost use Rattle.dd_store.specs.Keeping.{Kept};
-ghost use Rattle.dd_store.specs.Meaning.{sizes_of};
+ghost use Rattle.dd_store.specs.Meaning.{Basis, sizes_of};
 ghost use Rattle.dd_store.specs.Serving.{Faulted, Serves};
 ghost use Rattle.dd_answers.specs.Answering.{MayAnswer};
 ghost use Rattle.dd_gen.specs.Generator.{command_of, IsWithin};
@@ -29,10 +29,10 @@ pub(crate) fn step<F: Fingerprint, L: Lists, R: Rig>(
     requires ready { MayAnswer store.old.store 1 (R.device_size rig.old) }
     requires within { IsWithin store.old.store.journal.geo.blocks made }
     requires block { length block.old ≡ store.old.store.journal.geo.block }
-    ensures serves { R.tells → (room : ℕ) (c s : State) → Kept room (F.printed store.old.print) store.old.store (R.world rig.old) c s
-        → Serves room (F.printed store.old.print) result (R.clock rig.old) (R.clock rig.new) store.new.store (R.world rig.new) c s
+    ensures serves { R.tells → (basis : Basis) (c s : State) → Kept basis (F.printed store.old.print) store.old.store (R.world rig.old) c s
+        → Serves basis (F.printed store.old.print) result (R.clock rig.old) (R.clock rig.new) store.new.store (R.world rig.new) c s
         (after (sizes_of store.old.store.journal.geo) s (command_of made block.old)) }
-    ensures answers { R.tells → (room : ℕ) (c s : State) → Kept room (F.printed store.old.print) store.old.store (R.world rig.old) c s
+    ensures answers { R.tells → (basis : Basis) (c s : State) → Kept basis (F.printed store.old.print) store.old.store (R.world rig.old) c s
         → IfOk result (λ done. AnswersCommand (F.printed store.old.print) (sizes_of store.old.store.journal.geo) s (command_of made block.old) done) }
     ensures unsaid { R.tells → Elapses (R.clock rig.old) (R.clock rig.new) (λ o. o.out ≡ (R.world rig.old).said) }
     ensures said { R.tells → (R.world rig.new).said ≡ (R.world rig.old).said }
@@ -61,10 +61,10 @@ fn step_read<F: Fingerprint, L: Lists, R: Rig>(
     requires ready { MayAnswer store.old.store 1 (R.device_size rig.old) }
     requires below { address < store.old.store.journal.geo.blocks }
     requires block { length block.old ≡ store.old.store.journal.geo.block }
-    ensures serves { R.tells → (room : ℕ) (c s : State) → Kept room (F.printed store.old.print) store.old.store (R.world rig.old) c s
-        → Serves room (F.printed store.old.print) result (R.clock rig.old) (R.clock rig.new) store.new.store (R.world rig.new) c s
+    ensures serves { R.tells → (basis : Basis) (c s : State) → Kept basis (F.printed store.old.print) store.old.store (R.world rig.old) c s
+        → Serves basis (F.printed store.old.print) result (R.clock rig.old) (R.clock rig.new) store.new.store (R.world rig.new) c s
         (after (sizes_of store.old.store.journal.geo) s (read address)) }
-    ensures answers { R.tells → (room : ℕ) (c s : State) → Kept room (F.printed store.old.print) store.old.store (R.world rig.old) c s
+    ensures answers { R.tells → (basis : Basis) (c s : State) → Kept basis (F.printed store.old.print) store.old.store (R.world rig.old) c s
         → IfOk result (λ done. AnswersCommand (F.printed store.old.print) (sizes_of store.old.store.journal.geo) s (read address) done) }
     ensures unsaid { R.tells → Elapses (R.clock rig.old) (R.clock rig.new) (λ o. o.out ≡ (R.world rig.old).said) }
     ensures said { R.tells → (R.world rig.new).said ≡ (R.world rig.old).said }
@@ -91,10 +91,10 @@ fn step_write<F: Fingerprint, L: Lists, R: Rig>(
     requires ready { MayAnswer store.old.store 1 (R.device_size rig.old) }
     requires below { address < store.old.store.journal.geo.blocks }
     requires block { length block.now ≡ store.old.store.journal.geo.block }
-    ensures serves { R.tells → (room : ℕ) (c s : State) → Kept room (F.printed store.old.print) store.old.store (R.world rig.old) c s
-        → Serves room (F.printed store.old.print) result (R.clock rig.old) (R.clock rig.new) store.new.store (R.world rig.new) c s
+    ensures serves { R.tells → (basis : Basis) (c s : State) → Kept basis (F.printed store.old.print) store.old.store (R.world rig.old) c s
+        → Serves basis (F.printed store.old.print) result (R.clock rig.old) (R.clock rig.new) store.new.store (R.world rig.new) c s
         (after (sizes_of store.old.store.journal.geo) s (write address block.now)) }
-    ensures answers { R.tells → (room : ℕ) (c s : State) → Kept room (F.printed store.old.print) store.old.store (R.world rig.old) c s
+    ensures answers { R.tells → (basis : Basis) (c s : State) → Kept basis (F.printed store.old.print) store.old.store (R.world rig.old) c s
         → IfOk result (λ done. AnswersCommand (F.printed store.old.print) (sizes_of store.old.store.journal.geo) s (write address block.now) done) }
     ensures unsaid { R.tells → Elapses (R.clock rig.old) (R.clock rig.new) (λ o. o.out ≡ (R.world rig.old).said) }
     ensures said { R.tells → (R.world rig.new).said ≡ (R.world rig.old).said }
@@ -116,10 +116,10 @@ fn step_tick<F: Fingerprint, L: Lists, R: Rig>(
     rig: &mut R,
 ) -> Result<Option<Done>, StoreFault>
     requires ready { MayAnswer store.old.store 1 (R.device_size rig.old) }
-    ensures serves { R.tells → (room : ℕ) (c s : State) → Kept room (F.printed store.old.print) store.old.store (R.world rig.old) c s
-        → Serves room (F.printed store.old.print) result (R.clock rig.old) (R.clock rig.new) store.new.store (R.world rig.new) c s
+    ensures serves { R.tells → (basis : Basis) (c s : State) → Kept basis (F.printed store.old.print) store.old.store (R.world rig.old) c s
+        → Serves basis (F.printed store.old.print) result (R.clock rig.old) (R.clock rig.new) store.new.store (R.world rig.new) c s
         (after (sizes_of store.old.store.journal.geo) s tick) }
-    ensures answers { R.tells → (room : ℕ) (c s : State) → Kept room (F.printed store.old.print) store.old.store (R.world rig.old) c s
+    ensures answers { R.tells → (basis : Basis) (c s : State) → Kept basis (F.printed store.old.print) store.old.store (R.world rig.old) c s
         → IfOk result (λ done. AnswersCommand (F.printed store.old.print) (sizes_of store.old.store.journal.geo) s tick done) }
     ensures unsaid { R.tells → Elapses (R.clock rig.old) (R.clock rig.new) (λ o. o.out ≡ (R.world rig.old).said) }
     ensures said { R.tells → (R.world rig.new).said ≡ (R.world rig.old).said }
@@ -141,10 +141,10 @@ fn step_flush<F: Fingerprint, L: Lists, R: Rig>(
     rig: &mut R,
 ) -> Result<Option<Done>, StoreFault>
     requires ready { MayAnswer store.old.store 1 (R.device_size rig.old) }
-    ensures serves { R.tells → (room : ℕ) (c s : State) → Kept room (F.printed store.old.print) store.old.store (R.world rig.old) c s
-        → Serves room (F.printed store.old.print) result (R.clock rig.old) (R.clock rig.new) store.new.store (R.world rig.new) c s
+    ensures serves { R.tells → (basis : Basis) (c s : State) → Kept basis (F.printed store.old.print) store.old.store (R.world rig.old) c s
+        → Serves basis (F.printed store.old.print) result (R.clock rig.old) (R.clock rig.new) store.new.store (R.world rig.new) c s
         (after (sizes_of store.old.store.journal.geo) s flush) }
-    ensures answers { R.tells → (room : ℕ) (c s : State) → Kept room (F.printed store.old.print) store.old.store (R.world rig.old) c s
+    ensures answers { R.tells → (basis : Basis) (c s : State) → Kept basis (F.printed store.old.print) store.old.store (R.world rig.old) c s
         → IfOk result (λ done. AnswersCommand (F.printed store.old.print) (sizes_of store.old.store.journal.geo) s flush done) }
     ensures unsaid { R.tells → Elapses (R.clock rig.old) (R.clock rig.new) (λ o. o.out ≡ (R.world rig.old).said) }
     ensures said { R.tells → (R.world rig.new).said ≡ (R.world rig.old).said }

@@ -18,7 +18,7 @@ use Rattle.dd_journal.specs.Sitting.{JournalView, IsStable, Sits}
 use Rattle.dd_journal.proofs.Finds.{found_records_are}
 use Rattle.dd_journal.proofs.Sole.{spells_one}
 use Rattle.dd_store.specs.Keeping.{StoreView}
-use Rattle.dd_store.specs.Meaning.{KeepsPace, Means, Stands}
+use Rattle.dd_store.specs.Meaning.{HasBehind, Basis, KeepsPace, Means, Stands}
 use Rattle.dd_recover.specs.Opening.{reading_fault}
 use Rattle.dd_recover.specs.Stages.{FoundMeans, HasFound, found_fault, refused_by}
 
@@ -40,15 +40,15 @@ spells_of flash geo r reads at text = record {
 }
 
 -- what was found of devices that stand for a state
-record MeansSo (room : ℕ) (print : List ℕ → Fp) (geo : Geometry) (found : Found) (world : World) (s : State) (stands : Stands room print world.flash.shown world.disk.shown s) : Type 0 where
+record MeansSo (basis : Basis) (print : List ℕ → Fp) (geo : Geometry) (found : Found) (world : World) (s : State) (stands : Stands basis print world.flash.shown world.disk.shown s) : Type 0 where
   same_geo : stands.geo ≡ geo
-  means : FoundMeans room print geo found world s
+  means : FoundMeans basis print geo found world s
 
 module _ (print : List ℕ → Fp) (geo : Geometry) (found : Found) (is : IsFound geo found) where
   means_so : (world : World) → take 64 world.flash.shown ≡ super_text geo → IsReadOff geo world.flash.shown found
       → ((committed : Table) → RowsFit (found_table found) → replay geo.acap geo.bcap (found_records found) (found_table found) ≡ Some committed → Sits found.journal world committed)
-      → (room : ℕ) (s : State) (stands : Stands room print world.flash.shown world.disk.shown s) → MeansSo room print geo found world s stands
-  means_so world text off sits room s stands =
+      → (basis : Basis) (s : State) (stands : Stands basis print world.flash.shown world.disk.shown s) → MeansSo basis print geo found world s stands
+  means_so world text off sits basis s stands =
       let flash : List ℕ = world.flash.shown in
       let disk : List ℕ = world.disk.shown in
       let says = stands.says in
@@ -69,7 +69,8 @@ module _ (print : List ℕ → Fp) (geo : Geometry) (found : Found) (is : IsFoun
           rows = stands.table;
           replayed = replayed;
           sits = sits stands.table (subst RowsFit tables says.fit) replayed;
-          pace = subst (λ (n : ℕ). KeepsPace room found.journal.epoch stands.table.a n) committed (subst (λ (epoch : ℕ). KeepsPace room epoch stands.table.a stands.count) epochs stands.pace);
+          pace = subst (λ (n : ℕ). KeepsPace basis.room found.journal.epoch stands.table.a n) committed (subst (λ (epoch : ℕ). KeepsPace basis.room epoch stands.table.a stands.count) epochs stands.pace);
+          behind = subst (λ (g : Geometry). HasBehind basis g flash disk) same_geo stands.behind;
           means = subst (λ (n : ℕ). Means print geo flash disk stands.table n s) committed (subst (λ (g : Geometry). Means print g flash disk stands.table stands.count s) same_geo stands.means);
         };
       }
@@ -78,16 +79,16 @@ module _ (print : List ℕ → Fp) (geo : Geometry) (found : Found) (is : IsFoun
   pub found_means : (old read now : World) → read ≡ old → now ≡ read → take 64 old.flash.shown ≡ super_text geo → IsReadOff geo read.flash.shown found
       → ((committed : Table) → IsStable read.flash → StandsAt read.flash.shown 0 (super_text geo) → RowsFit (found_table found)
       → replay geo.acap geo.bcap (found_records found) (found_table found) ≡ Some committed → Sits found.journal now committed)
-      → IsStable old.flash → (room : ℕ) (s : State) (stands : Stands room print old.flash.shown old.disk.shown s) → (stands.geo ≡ geo) × FoundMeans room print geo found now s
-  found_means old read now read_is now_is text off sits stable room s stands =
+      → IsStable old.flash → (basis : Basis) (s : State) (stands : Stands basis print old.flash.shown old.disk.shown s) → (stands.geo ≡ geo) × FoundMeans basis print geo found now s
+  found_means old read now read_is now_is text off sits stable basis s stands =
       let same : now ≡ old = now_is ∙ read_is in
       let sits_old = subst
       (λ (w : World). (committed : Table) → IsStable w.flash → StandsAt w.flash.shown 0 (super_text geo) → RowsFit (found_table found)
       → replay geo.acap geo.bcap (found_records found) (found_table found) ≡ Some committed → Sits found.journal now committed)
       read_is sits in
       let here = means_so old text (subst (λ (w : World). IsReadOff geo w.flash.shown found) read_is off)
-      (λ committed fit replayed. subst (λ (w : World). Sits found.journal w committed) same (sits_old committed stable text fit replayed)) room s stands in
-      (here.same_geo, subst (λ (w : World). FoundMeans room print geo found w s) (sym same) here.means)
+      (λ committed fit replayed. subst (λ (w : World). Sits found.journal w committed) same (sits_old committed stable text fit replayed)) basis s stands in
+      (here.same_geo, subst (λ (w : World). FoundMeans basis print geo found w s) (sym same) here.means)
 
 -- the journal of a store that has what was found sits on the rig
 pub found_sits : (geo : Geometry) (found : Found) (store : StoreView) (old read now : World) → read ≡ old → take 64 old.flash.shown ≡ super_text geo

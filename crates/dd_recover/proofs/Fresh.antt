@@ -12,7 +12,8 @@ use Rattle.dd_journal.proofs.Standing.{front_stands, stands_byte}
 use Rattle.dd_rig.specs.World.{World}
 use Rattle.dd_store.specs.Meaning.{Stands}
 use Rattle.dd_store.proofs.Sole.{stands_one}
-use Rattle.dd_recover.specs.Formatting.{IsFormatted, formatted_state, first_head, first_text, IsFresh}
+use Rattle.dd_recover.proofs.Beginning.{begins_at}
+use Rattle.dd_recover.specs.Formatting.{fresh_basis, IsFormatted, formatted_state, first_head, first_text, IsFresh}
 
 abbrev first_reading : Geometry → Reading
 first_reading geo = record { geo = geo; region = 0; version = 2; epoch = 1; count = 0; table = empty_table; groups = [] }
@@ -35,7 +36,7 @@ spells_first geo flash f = record {
 }
 
 stands_fresh : (print : List ℕ → Fp) (geo : Geometry) (flash disk : List ℕ) → IsFresh geo flash → disk_need geo ≤ length disk
-    → (here : Stands 1 print flash disk (formatted_state geo disk)) × (here.geo ≡ geo)
+    → (here : Stands (fresh_basis geo flash disk) print flash disk (formatted_state geo disk)) × (here.geo ≡ geo)
 unfolding IsDistinct
 stands_fresh print geo flash disk f room = (
   record {
@@ -45,6 +46,7 @@ stands_fresh print geo flash disk f room = (
     says = record { reading = first_reading geo; spells = spells_first geo flash f; geometry = refl; versioned = refl; fit = record { slots = tt; addresses = tt; links = tt }; replayed = refl; counted = refl };
     pace = omega arith;
     disk_size = room;
+    behind = (refl, refl);
     means = record {
       array_length = length-array_of geo.block geo.blocks disk;
       array_blocks = array_blocks geo.block geo.blocks disk room;
@@ -60,7 +62,8 @@ formatted print geo world flash f room =
     let here = stands_fresh print geo flash world.disk.shown f room in
     record {
       stands = here.0;
-      only = λ other s stands. stands_one other 1 print flash world.disk.shown s (formatted_state geo world.disk.shown) stands here.0;
+      only = λ other s stands. stands_one other (fresh_basis geo flash world.disk.shown) print flash world.disk.shown s (formatted_state geo world.disk.shown) stands here.0;
       geometry = here.1;
+      again = begins_at (fresh_basis geo flash world.disk.shown) print (formatted_state geo world.disk.shown) flash world.disk.shown here.0;
       bytes = f;
     }

@@ -20,7 +20,7 @@ use Rattle.dd_journal.specs.declared.found.Placed.{Placed}
 use Rattle.dd_journal.specs.Found.{IsFound, found_table, found_records}
 use Rattle.dd_journal.specs.Sitting.{JournalView, Sits}
 use Rattle.dd_store.specs.Keeping.{StoreView, Kept}
-use Rattle.dd_store.specs.Meaning.{KeepsPace, Means}
+use Rattle.dd_store.specs.Meaning.{HasBehind, Basis, KeepsPace, Means}
 use Rattle.dd_store.specs.Serving.{HasLimits, store_of}
 use Rattle.dd_recover.specs.Opening.{IsOpened}
 use Rattle.dd_recover.specs.Stages.{FoundMeans}
@@ -69,14 +69,15 @@ module _ (geo : Geometry) (found : Found) (is : IsFound geo found) where
       subst (λ (v : StoreView). IsOpened v size) (sym same) here
 
 -- a store that keeps what both devices mean by the rows that it was made of
-pub found_kept : (room : ℕ) (print : List ℕ → Fp) (geo : Geometry) (found : Found) (world : World) (s : State) (rows : Table) (count : ℕ) (store : StoreView)
+pub found_kept : (basis : Basis) (print : List ℕ → Fp) (geo : Geometry) (found : Found) (world : World) (s : State) (rows : Table) (count : ℕ) (store : StoreView)
     → replay geo.acap geo.bcap (found_records found) (found_table found) ≡ Some rows → count ≡ found.journal.committed
-    → (Sits found.journal world rows → KeepsPace room found.journal.epoch rows.a count → Means print geo world.flash.shown world.disk.shown rows count s → Kept room print store world s s)
-    → FoundMeans room print geo found world s → Kept room print store world s s
-found_kept room print geo found world s rows count store replayed counted keeps means =
+    → (Sits found.journal world rows → KeepsPace basis.room found.journal.epoch rows.a count → HasBehind basis geo world.flash.shown world.disk.shown → Means print geo world.flash.shown world.disk.shown rows count s → Kept basis print store world s s)
+    → FoundMeans basis print geo found world s → Kept basis print store world s s
+found_kept basis print geo found world s rows count store replayed counted keeps means =
     let both : Some means.rows ≡ Some rows = sym means.replayed ∙ replayed in
     let one : means.rows ≡ rows = cc both in
     keeps (subst (λ (t : Table). Sits found.journal world t) one means.sits)
-    (subst (λ (n : ℕ). KeepsPace room found.journal.epoch rows.a n) (sym counted) (subst (λ (t : Table). KeepsPace room found.journal.epoch t.a found.journal.committed) one means.pace))
+    (subst (λ (n : ℕ). KeepsPace basis.room found.journal.epoch rows.a n) (sym counted) (subst (λ (t : Table). KeepsPace basis.room found.journal.epoch t.a found.journal.committed) one means.pace))
+    means.behind
     (subst (λ (n : ℕ). Means print geo world.flash.shown world.disk.shown rows n s) (sym counted)
     (subst (λ (t : Table). Means print geo world.flash.shown world.disk.shown t found.journal.committed s) one means.means))

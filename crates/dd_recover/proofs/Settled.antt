@@ -12,7 +12,7 @@ use Rattle.dd_journal.specs.Regions.{Says}
 use Rattle.dd_journal.specs.Sitting.{IsStable, Sits}
 use Rattle.dd_journal.proofs.Reaching.{synced_is_stable}
 use Rattle.dd_store.specs.Keeping.{Kept}
-use Rattle.dd_store.specs.Meaning.{Stands}
+use Rattle.dd_store.specs.Meaning.{Basis, Stands}
 use Rattle.dd_store.specs.Serving.{StoreOf}
 use Rattle.dd_recover.specs.declared.opening_fault.OpenFault.{OpenFault}
 use Rattle.dd_recover.specs.Calls.{HoldsShown}
@@ -35,24 +35,24 @@ settled_stable old synced new is same =
 
 -- devices that were synced and opened hold the state that they stood for
 pub kept_settled : (F : Type 0) (printed : List ℕ → Fp) (result : Result (StoreOf F) OpenFault) (old synced new : World) → synced ≡ settled old
-    → IfOk result (λ opened. (room : ℕ) (s : State) (stands : Stands room printed synced.flash.shown synced.disk.shown s) → IsStable synced.flash → IsStable synced.disk
-    → (opened.store.journal.geo ≡ stands.geo) × Kept room printed opened.store new s s)
-    → IfOk result (λ opened. (room : ℕ) (s : State) (stands : Stands room printed old.flash.shown old.disk.shown s) → (opened.store.journal.geo ≡ stands.geo) × Kept room printed opened.store new s s)
+    → IfOk result (λ opened. (basis : Basis) (s : State) (stands : Stands basis printed synced.flash.shown synced.disk.shown s) → IsStable synced.flash → IsStable synced.disk
+    → (opened.store.journal.geo ≡ stands.geo) × Kept basis printed opened.store new s s)
+    → IfOk result (λ opened. (basis : Basis) (s : State) (stands : Stands basis printed old.flash.shown old.disk.shown s) → (opened.store.journal.geo ≡ stands.geo) × Kept basis printed opened.store new s s)
 kept_settled F printed result old synced new is kept =
     IfOk-weaker result
-    (λ opened. (room : ℕ) (s : State) (stands : Stands room printed old.flash.shown old.disk.shown s) → IsStable (settled old).flash → IsStable (settled old).disk → (opened.store.journal.geo ≡ stands.geo) × Kept room printed opened.store new s s)
-    (λ opened. (room : ℕ) (s : State) (stands : Stands room printed old.flash.shown old.disk.shown s) → (opened.store.journal.geo ≡ stands.geo) × Kept room printed opened.store new s s)
-    (λ opened at room s stands. at room s stands (synced_is_stable old.flash) (synced_is_stable old.disk))
+    (λ opened. (basis : Basis) (s : State) (stands : Stands basis printed old.flash.shown old.disk.shown s) → IsStable (settled old).flash → IsStable (settled old).disk → (opened.store.journal.geo ≡ stands.geo) × Kept basis printed opened.store new s s)
+    (λ opened. (basis : Basis) (s : State) (stands : Stands basis printed old.flash.shown old.disk.shown s) → (opened.store.journal.geo ≡ stands.geo) × Kept basis printed opened.store new s s)
+    (λ opened at basis s stands. at basis s stands (synced_is_stable old.flash) (synced_is_stable old.disk))
     (subst
-    (λ (w : World). IfOk result (λ opened. (room : ℕ) (s : State) (stands : Stands room printed w.flash.shown w.disk.shown s) → IsStable w.flash → IsStable w.disk → (opened.store.journal.geo ≡ stands.geo) × Kept room printed opened.store new s s))
+    (λ (w : World). IfOk result (λ opened. (basis : Basis) (s : State) (stands : Stands basis printed w.flash.shown w.disk.shown s) → IsStable w.flash → IsStable w.disk → (opened.store.journal.geo ≡ stands.geo) × Kept basis printed opened.store new s s))
     is kept)
 
 -- such devices hold what they showed
 pub holds_settled : (F : Type 0) (printed : List ℕ → Fp) (result : Result (StoreOf F) OpenFault) (old synced new : World) → synced ≡ settled old
     → IfOk result (λ opened. Says synced.flash.shown opened.store.journal.geo 2 opened.store.table opened.store.count)
     → IfOk result (λ opened. IsStable synced.flash → Sits opened.store.journal new opened.store.table)
-    → IfOk result (λ opened. (room : ℕ) (s : State) (stands : Stands room printed synced.flash.shown synced.disk.shown s) → IsStable synced.flash → IsStable synced.disk
-    → (opened.store.journal.geo ≡ stands.geo) × Kept room printed opened.store new s s)
+    → IfOk result (λ opened. (basis : Basis) (s : State) (stands : Stands basis printed synced.flash.shown synced.disk.shown s) → IsStable synced.flash → IsStable synced.disk
+    → (opened.store.journal.geo ≡ stands.geo) × Kept basis printed opened.store new s s)
     → IfOk result (λ opened. HoldsShown printed opened.store old new)
 holds_settled F printed (Ok opened) old synced new is says sits kept = record {
   says = subst (λ (w : World). Says w.flash.shown opened.store.journal.geo 2 opened.store.table opened.store.count) is says;

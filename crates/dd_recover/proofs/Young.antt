@@ -25,7 +25,7 @@ use Rattle.dd_journal.specs.Logged.{placed_records}
 use Rattle.dd_journal.specs.Regions.{Reading, head_of, log_begins, records_of}
 use Rattle.dd_journal.proofs.Sole.{no_fault}
 use Rattle.dd_store.specs.Keeping.{Kept}
-use Rattle.dd_store.specs.Meaning.{Stands}
+use Rattle.dd_store.specs.Meaning.{Basis, Stands}
 use Rattle.dd_store.specs.Serving.{StoreOf}
 use Rattle.dd_recover.specs.declared.opening_fault.OpenFault.{OpenFault}
 use Rattle.dd_recover.specs.declared.opening_fault.OpenFault.TheVariants.{Memory, FlashRead, FlashWrite, DiskWrite, FlashSmall, DiskSmall, Super, NoRegion, Snapshot, Group, Worn, Version1}
@@ -76,7 +76,7 @@ reading_none r after fit replayed two =
     ∙ ap (λ (f : Option OpenFault). option_or f (version_fault r.version)) records
     ∙ ap version_fault two
 
-module _ (room : ℕ) (print : List ℕ → Fp) (flash disk : List ℕ) (size : Dev → ℕ) (flash_size : length flash ≡ size Flash) (disk_size : length disk ≡ size Disk) (s : State) (stands : Stands room print flash disk s) (young : IsYoung stands) where
+module _ (basis : Basis) (print : List ℕ → Fp) (flash disk : List ℕ) (size : Dev → ℕ) (flash_size : length flash ≡ size Flash) (disk_size : length disk ≡ size Disk) (s : State) (stands : Stands basis print flash disk s) (young : IsYoung stands) where
   pub young_none : (fault : OpenFault) → IsFirstFault size flash fault → ⊥
   young_none =
       let says = stands.says in
@@ -89,31 +89,31 @@ module _ (room : ℕ) (print : List ℕ → Fp) (flash disk : List ℕ) (size : 
       (reading_none r stands.table says.fit replayed says.versioned)
 
 -- so they are opened, or there was no memory or a call failed
-opens_if : (room : ℕ) (F : Type 0) (print : F) (printed : List ℕ → Fp) (geo : Geometry) (result : Result (StoreOf F) OpenFault) (new : World) (s : State) (size : Dev → ℕ) (flash : List ℕ)
+opens_if : (basis : Basis) (F : Type 0) (print : F) (printed : List ℕ → Fp) (geo : Geometry) (result : Result (StoreOf F) OpenFault) (new : World) (s : State) (size : Dev → ℕ) (flash : List ℕ)
     → ((fault : OpenFault) → IsFirstFault size flash fault → ⊥) → TellsOpening result size flash → IfOk result (λ opened. opened.print ≡ print)
-    → IfOk result (λ opened. (opened.store.journal.geo ≡ geo) × Kept room printed opened.store new s s) → Opens room print printed geo result new s
-opens_if room F print printed geo (Ok opened) new s size flash none told same kept = (same, kept.0, kept.1)
-opens_if room F print printed geo (Err (Memory e)) new s size flash none told same kept = tt
-opens_if room F print printed geo (Err FlashRead) new s size flash none told same kept = tt
-opens_if room F print printed geo (Err FlashWrite) new s size flash none told same kept = tt
-opens_if room F print printed geo (Err DiskWrite) new s size flash none told same kept = tt
-opens_if room F print printed geo (Err (FlashSmall need have)) new s size flash none told same kept = none (FlashSmall need have) told
-opens_if room F print printed geo (Err (DiskSmall need have)) new s size flash none told same kept = none (DiskSmall need have) told
-opens_if room F print printed geo (Err (Super f)) new s size flash none told same kept = none (Super f) told
-opens_if room F print printed geo (Err NoRegion) new s size flash none told same kept = none NoRegion told
-opens_if room F print printed geo (Err (Snapshot region at)) new s size flash none told same kept = none (Snapshot region at) told
-opens_if room F print printed geo (Err (Group region at)) new s size flash none told same kept = none (Group region at) told
-opens_if room F print printed geo (Err (Worn value)) new s size flash none told same kept = none (Worn value) told
-opens_if room F print printed geo (Err Version1) new s size flash none told same kept = none Version1 told
+    → IfOk result (λ opened. (opened.store.journal.geo ≡ geo) × Kept basis printed opened.store new s s) → Opens basis print printed geo result new s
+opens_if basis F print printed geo (Ok opened) new s size flash none told same kept = (same, kept.0, kept.1)
+opens_if basis F print printed geo (Err (Memory e)) new s size flash none told same kept = tt
+opens_if basis F print printed geo (Err FlashRead) new s size flash none told same kept = tt
+opens_if basis F print printed geo (Err FlashWrite) new s size flash none told same kept = tt
+opens_if basis F print printed geo (Err DiskWrite) new s size flash none told same kept = tt
+opens_if basis F print printed geo (Err (FlashSmall need have)) new s size flash none told same kept = none (FlashSmall need have) told
+opens_if basis F print printed geo (Err (DiskSmall need have)) new s size flash none told same kept = none (DiskSmall need have) told
+opens_if basis F print printed geo (Err (Super f)) new s size flash none told same kept = none (Super f) told
+opens_if basis F print printed geo (Err NoRegion) new s size flash none told same kept = none NoRegion told
+opens_if basis F print printed geo (Err (Snapshot region at)) new s size flash none told same kept = none (Snapshot region at) told
+opens_if basis F print printed geo (Err (Group region at)) new s size flash none told same kept = none (Group region at) told
+opens_if basis F print printed geo (Err (Worn value)) new s size flash none told same kept = none (Worn value) told
+opens_if basis F print printed geo (Err Version1) new s size flash none told same kept = none Version1 told
 
 -- where the snapshot of such devices is young they are opened
 pub opens_settled : (F : Type 0) (print : F) (printed : List ℕ → Fp) (result : Result (StoreOf F) OpenFault) (flash disk : List ℕ) (new : World) (size : Dev → ℕ)
     → length flash ≡ size Flash → length disk ≡ size Disk → TellsOpening result size flash → IfOk result (λ opened. opened.print ≡ print)
-    → IfOk result (λ opened. (room : ℕ) (s : State) (stands : Stands room printed flash disk s) → (opened.store.journal.geo ≡ stands.geo) × Kept room printed opened.store new s s)
-    → (room : ℕ) (s : State) (stands : Stands room printed flash disk s) → IsYoung stands → Opens room print printed stands.geo result new s
-opens_settled F print printed result flash disk new size flash_size disk_size told same kept room s stands young =
-    opens_if room F print printed stands.geo result new s size flash (young_none room printed flash disk size flash_size disk_size s stands young) told same
+    → IfOk result (λ opened. (basis : Basis) (s : State) (stands : Stands basis printed flash disk s) → (opened.store.journal.geo ≡ stands.geo) × Kept basis printed opened.store new s s)
+    → (basis : Basis) (s : State) (stands : Stands basis printed flash disk s) → IsYoung stands → Opens basis print printed stands.geo result new s
+opens_settled F print printed result flash disk new size flash_size disk_size told same kept basis s stands young =
+    opens_if basis F print printed stands.geo result new s size flash (young_none basis printed flash disk size flash_size disk_size s stands young) told same
     (IfOk-weaker result
-    (λ opened. (other : ℕ) (t : State) (st : Stands other printed flash disk t) → (opened.store.journal.geo ≡ st.geo) × Kept other printed opened.store new t t)
-    (λ opened. (opened.store.journal.geo ≡ stands.geo) × Kept room printed opened.store new s s)
-    (λ opened at. at room s stands) kept)
+    (λ opened. (other : Basis) (t : State) (st : Stands other printed flash disk t) → (opened.store.journal.geo ≡ st.geo) × Kept other printed opened.store new t t)
+    (λ opened. (opened.store.journal.geo ≡ stands.geo) × Kept basis printed opened.store new s s)
+    (λ opened at. at basis s stands) kept)

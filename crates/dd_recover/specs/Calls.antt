@@ -13,7 +13,7 @@ use Rattle.dd_model.specs.State.{State}
 use Rattle.dd_journal.specs.Regions.{Says}
 use Rattle.dd_journal.specs.Sitting.{IsStable, Sits, regions_size}
 use Rattle.dd_store.specs.Keeping.{StoreView, Kept}
-use Rattle.dd_store.specs.Meaning.{Stands}
+use Rattle.dd_store.specs.Meaning.{Basis, Stands}
 use Rattle.dd_recover.specs.declared.fault.FormatFault.{FormatFault}
 use Rattle.dd_recover.specs.declared.fault.FormatFault.TheVariants as format_fault_is
 use Rattle.dd_recover.specs.declared.opening_fault.OpenFault.{OpenFault}
@@ -49,7 +49,7 @@ pub record LeavesOfFormat (geo : Geometry) (result : Result Unit FormatFault) (o
 pub record HoldsShown (print : List ℕ → Fp) (store : StoreView) (old new : World) : Type 0 where
   pub says : Says (shown Flash old) store.journal.geo 2 store.table store.count
   pub sits : Sits store.journal new store.table
-  pub kept : (room : ℕ) (s : State) (stands : Stands room print (shown Flash old) (shown Disk old) s) → (store.journal.geo ≡ stands.geo) × Kept room print store new s s
+  pub kept : (basis : Basis) (s : State) (stands : Stands basis print (shown Flash old) (shown Disk old) s) → (store.journal.geo ≡ stands.geo) × Kept basis print store new s s
 
 -- What an opening costs: a sync of each device, and four reads of the flash behind them. It writes nothing.
 pub record CostsOfOpening {T : Type 0} (result : Result T OpenFault) (before after : Counts) : Type 0 where

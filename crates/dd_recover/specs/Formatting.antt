@@ -1,5 +1,5 @@
 -- What a format refuses, and what it leaves.
-use Rattle.std.specs.Prelude.{◌≡◌, ◌≢◌, ◌⊎◌, ℕ, ◌≤◌, ◌==◌, nat_lt, List, [], ◌∷◌, ◌++◌, length, Option, Some, None, Result, Ok, Err, if◌then◌else◌, slice_index, ⊤}
+use Rattle.std.specs.Prelude.{drop, ◌≡◌, ◌≢◌, ◌⊎◌, ℕ, ◌≤◌, ◌==◌, nat_lt, List, [], ◌∷◌, ◌++◌, length, Option, Some, None, Result, Ok, Err, if◌then◌else◌, slice_index, ⊤}
 use Rattle.std.specs.Option.{option_or}
 use Rattle.dd_block.specs.declared.print.Fp.{Fp}
 use Rattle.dd_block.specs.declared.geometry.Geometry.{Geometry}
@@ -14,7 +14,8 @@ use Rattle.dd_layout.specs.Super.{super_text}
 use Rattle.dd_record.specs.declared.head.Head.{Head}
 use Rattle.dd_record.specs.Spelling.{head_text}
 use Rattle.dd_model.specs.State.{State, array_of, fresh}
-use Rattle.dd_store.specs.Meaning.{Stands}
+use Rattle.dd_recover.specs.Beginning.{BeginsAt}
+use Rattle.dd_store.specs.Meaning.{Basis, Stands}
 use Rattle.dd_recover.specs.declared.fault.FormatFault.{FormatFault}
 use Rattle.dd_recover.specs.declared.fault.FormatFault.TheVariants.{FlashSmall, DiskSmall, InUse, FlashRead, FlashWrite, DiskWrite}
 
@@ -86,12 +87,18 @@ pub record IsFresh (geo : Geometry) (flash : List ℕ) : Type 0 where
   pub region : StandsAt (region_bytes geo flash 0) 0 first_text
   pub other : slice_index (region_bytes geo flash 1) 0 ≡ 0
 
+-- what a format begins with: an epoch of 1, and what lies behind the slots and behind the array
+abbrev pub fresh_basis : Geometry → (flash disk : List ℕ) → Basis
+fresh_basis geo flash disk = record { room = 1; flash = drop (flash_need geo) flash; disk = drop (disk_need geo) disk }
+
 -- both devices stand, by this geometry, for what the disk showed with empty lists and for nothing else, and the flash has the
 -- bytes of a fresh one
 pub record IsFormatted (print : List ℕ → Fp) (geo : Geometry) (old : World) (flash disk : List ℕ) : Type 0 where
-  pub stands : Stands 1 print flash disk (formatted_state geo (shown Disk old))
-  pub only : (room : ℕ) (s : State) → Stands room print flash disk s → s ≡ formatted_state geo (shown Disk old)
+  pub stands : Stands (fresh_basis geo flash disk) print flash disk (formatted_state geo (shown Disk old))
+  pub only : (basis : Basis) (s : State) → Stands basis print flash disk s → s ≡ formatted_state geo (shown Disk old)
   pub geometry : stands.geo ≡ geo
+  -- so a run begins with that
+  pub again : BeginsAt (fresh_basis geo flash disk) print (formatted_state geo (shown Disk old)) flash disk
   pub bytes : IsFresh geo flash
 
 -- what a crash within a format adds: a flash that isn't in use, or devices that are formatted

@@ -22,7 +22,7 @@ use Rattle.dd_journal.specs.Faults.{journal_fault}
 use Rattle.dd_journal.specs.Logged.{placed_records}
 use Rattle.dd_journal.specs.Regions.{Reading, Spells}
 use Rattle.dd_store.specs.Keeping.{StoreView, Kept}
-use Rattle.dd_store.specs.Meaning.{Stands}
+use Rattle.dd_store.specs.Meaning.{Basis, Stands}
 use Rattle.dd_store.specs.Serving.{StoreOf}
 use Rattle.dd_recover.specs.declared.opening_fault.OpenFault.{OpenFault}
 use Rattle.dd_recover.specs.declared.opening_fault.OpenFault.TheVariants.{Memory, FlashRead, FlashWrite, DiskWrite, FlashSmall, DiskSmall, Super, NoRegion, Snapshot, Group, Worn, Version1}
@@ -98,17 +98,17 @@ TellsOpening (Err DiskWrite) size flash = ⊤
 TellsOpening (Err refused) size flash = IsFirstFault size flash refused
 
 -- the epoch and the count of the snapshot are below 2^62
-abbrev pub IsYoung : {room : ℕ} {print : List ℕ → Fp} {flash disk : List ℕ} {s : State} → Stands room print flash disk s → Type 0
+abbrev pub IsYoung : {basis : Basis} {print : List ℕ → Fp} {flash disk : List ℕ} {s : State} → Stands basis print flash disk s → Type 0
 IsYoung stands = (stands.says.reading.epoch < 2 ^ 62) × (stands.says.reading.count < 2 ^ 62)
 
 -- devices that stand for a state, with a snapshot that is young, are opened with it, unless there was no memory or a call failed
-abbrev pub Opens : {F : Type 0} → (room : ℕ) → (print : F) → (List ℕ → Fp) → Geometry → Result (StoreOf F) OpenFault → World → State → Type 0
-Opens room print printed geo (Ok opened) new s = (opened.print ≡ print) × (opened.store.journal.geo ≡ geo) × Kept room printed opened.store new s s
-Opens room print printed geo (Err (Memory e)) new s = ⊤
-Opens room print printed geo (Err FlashRead) new s = ⊤
-Opens room print printed geo (Err FlashWrite) new s = ⊤
-Opens room print printed geo (Err DiskWrite) new s = ⊤
-Opens room print printed geo (Err refused) new s = ⊥
+abbrev pub Opens : {F : Type 0} → (basis : Basis) → (print : F) → (List ℕ → Fp) → Geometry → Result (StoreOf F) OpenFault → World → State → Type 0
+Opens basis print printed geo (Ok opened) new s = (opened.print ≡ print) × (opened.store.journal.geo ≡ geo) × Kept basis printed opened.store new s s
+Opens basis print printed geo (Err (Memory e)) new s = ⊤
+Opens basis print printed geo (Err FlashRead) new s = ⊤
+Opens basis print printed geo (Err FlashWrite) new s = ⊤
+Opens basis print printed geo (Err DiskWrite) new s = ⊤
+Opens basis print printed geo (Err refused) new s = ⊥
 
 -- a store that was opened, on every rig: it is up, nothing is pending or laid, its numbers are small, and the devices are large enough
 pub record IsOpened (store : StoreView) (size : Dev → ℕ) : Type 0 where

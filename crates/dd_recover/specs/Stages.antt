@@ -16,7 +16,7 @@ use Rattle.dd_journal.specs.declared.found.Placed.{Placed}
 use Rattle.dd_journal.specs.Found.{found_table, found_records}
 use Rattle.dd_journal.specs.Sitting.{Sits}
 use Rattle.dd_store.specs.Keeping.{StoreView}
-use Rattle.dd_store.specs.Meaning.{KeepsPace, Means}
+use Rattle.dd_store.specs.Meaning.{HasBehind, Basis, KeepsPace, Means}
 use Rattle.dd_recover.specs.declared.opening_fault.OpenFault.{OpenFault}
 use Rattle.dd_recover.specs.declared.opening_fault.OpenFault.TheVariants.{Memory, FlashRead, FlashWrite, DiskWrite, Snapshot, Group}
 use Rattle.dd_recover.specs.Opening.{misfit_at, first_unfit, version_fault}
@@ -58,12 +58,13 @@ found_fault geo found = refused_by geo found.region found.head.version (found_ta
 abbrev pub recs_of : List Placed → List Rec
 recs_of recs = map (λ placed. placed.rec) recs
 
--- the journal that was found sits on the rig and keeps pace, and by the rows behind its records both devices mean this state
-pub record FoundMeans (room : ℕ) (print : List ℕ → Fp) (geo : Geometry) (found : Found) (world : World) (s : State) : Type 0 where
+-- the journal that was found sits on the rig and keeps pace, behind the slots and the array lies what the basis has, and by the rows behind its records both devices mean this state
+pub record FoundMeans (basis : Basis) (print : List ℕ → Fp) (geo : Geometry) (found : Found) (world : World) (s : State) : Type 0 where
   pub rows : Table
   pub replayed : replay geo.acap geo.bcap (found_records found) (found_table found) ≡ Some rows
   pub sits : Sits found.journal world rows
-  pub pace : KeepsPace room found.journal.epoch rows.a found.journal.committed
+  pub pace : KeepsPace basis.room found.journal.epoch rows.a found.journal.committed
+  pub behind : HasBehind basis geo world.flash.shown world.disk.shown
   pub means : Means print geo world.flash.shown world.disk.shown rows found.journal.committed s
 
 -- a store has the journal that was found, and the rows behind its records

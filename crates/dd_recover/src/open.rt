@@ -17,7 +17,7 @@ ghost use Rattle.dd_journal.specs.Found.{IsFound, IsReadOff, found_table, found_
 ghost use Rattle.dd_journal.specs.Regions.{Says};
 ghost use Rattle.dd_journal.specs.Sitting.{IsStable, Sits};
 ghost use Rattle.dd_store.specs.Keeping.{Kept};
-ghost use Rattle.dd_store.specs.Meaning.{Stands};
+ghost use Rattle.dd_store.specs.Meaning.{Basis, Stands};
 ghost use Rattle.dd_recover.specs.Calls.{FailsBy, HoldsShown, CostsOfOpening, LeavesOfOpening};
 ghost use Rattle.dd_recover.specs.Opening.{TellsOpening, Opens, IsYoung, IsOpened, IsUnsynced, OpenFaulted, front_fault, small_for, body_fault, opening_of};
 ghost use Rattle.dd_recover.specs.Stages.{Tells, IsCallFault, found_fault, FoundMeans, HasFound};
@@ -46,8 +46,8 @@ pub fn open_store<F: Fingerprint, L: Lists, R: Rig>(
     print: F,
 ) -> Result<Store<F, L>, OpenFault>
     // its answer
-    ensures opens { R.tells → (room : ℕ) (s : State) → (stands : Stands room (F.printed print) (shown FlashDevice (R.world rig.old)) (shown DiskDevice (R.world rig.old)) s) → IsYoung stands
-        → Opens room print (F.printed print) stands.geo result (R.world rig.new) s }
+    ensures opens { R.tells → (basis : Basis) (s : State) → (stands : Stands basis (F.printed print) (shown FlashDevice (R.world rig.old)) (shown DiskDevice (R.world rig.old)) s) → IsYoung stands
+        → Opens basis print (F.printed print) stands.geo result (R.world rig.new) s }
     ensures fault { R.tells → TellsOpening result (R.device_size rig.old) (shown FlashDevice (R.world rig.old)) }
     ensures opened { IfOk result (λ opened. IsOpened opened.store (R.device_size rig.old) × (opened.print ≡ print)) }
     ensures holds { R.tells → IfOk result (λ opened. HoldsShown (F.printed print) opened.store (R.world rig.old) (R.world rig.new)) }
@@ -84,9 +84,9 @@ fn open_settled<F: Fingerprint, L: Lists, R: Rig>(
     print: F,
 ) -> Result<Store<F, L>, OpenFault>
     ensures fault { R.tells → TellsOpening result (R.device_size rig.old) (shown FlashDevice (R.world rig.old)) }
-    ensures kept { R.tells → IfOk result (λ opened. (room : ℕ) (s : State) (stands : Stands room (F.printed print) (shown FlashDevice (R.world rig.old)) (shown DiskDevice (R.world rig.old)) s)
+    ensures kept { R.tells → IfOk result (λ opened. (basis : Basis) (s : State) (stands : Stands basis (F.printed print) (shown FlashDevice (R.world rig.old)) (shown DiskDevice (R.world rig.old)) s)
         → IsStable (R.world rig.old).flash → IsStable (R.world rig.old).disk
-        → (opened.store.journal.geo ≡ stands.geo) × Kept room (F.printed print) opened.store (R.world rig.new) s s) }
+        → (opened.store.journal.geo ≡ stands.geo) × Kept basis (F.printed print) opened.store (R.world rig.new) s s) }
     ensures opened { IfOk result (λ opened. IsOpened opened.store (R.device_size rig.old)) }
     ensures says { R.tells → IfOk result (λ opened. Says (shown FlashDevice (R.world rig.old)) opened.store.journal.geo 2 opened.store.table opened.store.count) }
     ensures sits { R.tells → IfOk result (λ opened. IsStable (R.world rig.old).flash → Sits opened.store.journal (R.world rig.new) opened.store.table) }
@@ -211,8 +211,8 @@ fn open_found<F: Fingerprint, L: Lists, R: Rig>(
     ensures opened { layout.flash_need geo ≤ R.device_size rig.now FlashDevice → layout.disk_need geo ≤ R.device_size rig.now DiskDevice
         → IfOk result (λ opened. IsOpened opened.store (R.device_size rig.now)) }
     ensures print { IfOk result (λ opened. opened.print ≡ print) }
-    ensures kept { R.tells → IfOk result (λ opened. (room : ℕ) (s : State) → IsStable (R.world rig.now).flash → IsStable (R.world rig.now).disk → layout.disk_need geo ≤ R.device_size rig.now DiskDevice
-        → FoundMeans room (F.printed print) geo found (R.world rig.now) s → Kept room (F.printed print) opened.store (R.world rig.now) s s) }
+    ensures kept { R.tells → IfOk result (λ opened. (basis : Basis) (s : State) → IsStable (R.world rig.now).flash → IsStable (R.world rig.now).disk → layout.disk_need geo ≤ R.device_size rig.now DiskDevice
+        → FoundMeans basis (F.printed print) geo found (R.world rig.now) s → Kept basis (F.printed print) opened.store (R.world rig.now) s s) }
 {
     let lists = lists_of(alloc, geo, &found)?;
     let journal = found.journal;

@@ -4,7 +4,7 @@ use Rattle.dd_block.specs.declared.print.Fp.{Fp}
 use Rattle.dd_rig.specs.declared.tallies.Counts.{Counts}
 use Rattle.dd_rig.specs.World.{World, Outcome}
 use Rattle.dd_loop.specs.declared.ending.Ending.{Ending}
-use Rattle.dd_answers.specs.Headline.{Begins, sizes_from}
+use Rattle.dd_recover.specs.Beginning.{Begins, sizes_from}
 use Rattle.dd_gen.specs.Large.{Caused, Promises, TellsSums}
 use Rattle.dd_serve.specs.declared.words.Load.{Load}
 

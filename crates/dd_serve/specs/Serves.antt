@@ -10,7 +10,7 @@ use Rattle.dd_script.specs.Output.{dialect_of}
 use Rattle.dd_script.specs.Reading.{IsTakenTo}
 use Rattle.dd_script.specs.Script.{commands_of, lines_of}
 use Rattle.dd_loop.specs.declared.ending.Ending.{Ending}
-use Rattle.dd_answers.specs.Headline.{Begins, sizes_from}
+use Rattle.dd_recover.specs.Beginning.{Begins, sizes_from}
 use Rattle.dd_answers.specs.Serving.{Caused, IsBounded, Serves}
 use Rattle.dd_serve.specs.Together.{StatsTellNone}
 

@@ -21,7 +21,7 @@ use Rattle.dd_store.specs.declared.fault.StoreFault.{StoreFault}
 use Rattle.dd_store.specs.declared.fault.StoreFault.TheVariants.{FlashRead, DiskRead, FlashWrite, DiskWrite}
 use Rattle.dd_store.specs.Bringing.{Carries, answer_for}
 use Rattle.dd_store.specs.Keeping.{StoreView, IsStore, Kept, Holds}
-use Rattle.dd_store.specs.Meaning.{sizes_of}
+use Rattle.dd_store.specs.Meaning.{Basis, sizes_of}
 use Rattle.dd_store.specs.Referring.{RecordFits, listing_in, is_fresh_block, kind_of, done_of, referred_store}
 use Rattle.dd_store.specs.Rounds.{Cleans}
 use Rattle.dd_store.specs.Serving.{GoesOn, Leaves, Serves, unlaid}
@@ -35,23 +35,23 @@ use Rattle.dd_store.proofs.Serves.{serves_then}
 use Rattle.dd_store.proofs.UsedSlots.{some_has}
 
 -- behind a read a store holds what it held, with nothing laid
-pub kept_behind : (room : ℕ) (print : List ℕ → Fp) (old new : StoreView) (before after : World) (c s : State) → new ≡ unlaid old → after ≡ before → Kept room print old before c s → Kept room print new after c s
-kept_behind room print old new before after c s is same kept =
-    subst (λ (v : StoreView). Kept room print v after c s) (sym is) (kept_unlaid room print old after c s (kept_read room print old before after c s same kept))
+pub kept_behind : (basis : Basis) (print : List ℕ → Fp) (old new : StoreView) (before after : World) (c s : State) → new ≡ unlaid old → after ≡ before → Kept basis print old before c s → Kept basis print new after c s
+kept_behind basis print old new before after c s is same kept =
+    subst (λ (v : StoreView). Kept basis print v after c s) (sym is) (kept_unlaid basis print old after c s (kept_read basis print old before after c s same kept))
 
 -- a read in front of a call
-pub serves_behind : {T : Type 0} (room : ℕ) (print : List ℕ → Fp) (result : Result T StoreFault) {first middle last : Clock} {store : StoreView} {world : World} {c s next : State}
-    → AddsNone first middle → Serves room print result middle last store world c s next → Serves room print result first last store world c s next
-serves_behind room print result time serves = record { crash = behind_read time serves.crash; leaves = serves.leaves }
+pub serves_behind : {T : Type 0} (basis : Basis) (print : List ℕ → Fp) (result : Result T StoreFault) {first middle last : Clock} {store : StoreView} {world : World} {c s next : State}
+    → AddsNone first middle → Serves basis print result middle last store world c s next → Serves basis print result first last store world c s next
+serves_behind basis print result time serves = record { crash = behind_read time serves.crash; leaves = serves.leaves }
 
 -- a read that failed
-pub serves_failed : (room : ℕ) (T : Type 0) (print : List ℕ → Fp) (fault : StoreFault) → (fault ≡ FlashRead) ⊎ (fault ≡ DiskRead) → (first last : Clock) (store : StoreView) (world : World) (c s next : State)
-    → AddsNone first last → Kept room print store world c s → Serves {T = T} room print (Err fault) first last store world c s next
-serves_failed room T print fault read first last store world c s next time kept =
-    let goes : GoesOn room print c s store world s = record { committed = c; either = inl refl; kept = kept } in
+pub serves_failed : (basis : Basis) (T : Type 0) (print : List ℕ → Fp) (fault : StoreFault) → (fault ≡ FlashRead) ⊎ (fault ≡ DiskRead) → (first last : Clock) (store : StoreView) (world : World) (c s next : State)
+    → AddsNone first last → Kept basis print store world c s → Serves {T = T} basis print (Err fault) first last store world c s next
+serves_failed basis T print fault read first last store world c s next time kept =
+    let goes : GoesOn basis print c s store world s = record { committed = c; either = inl refl; kept = kept } in
     ⊎_elim
-    (λ flash. subst (λ (f : StoreFault). Serves {T = T} room print (Err f) first last store world c s next) (sym flash) (record { crash = widens time (λ o none. absurd none); leaves = goes }))
-    (λ disk. subst (λ (f : StoreFault). Serves {T = T} room print (Err f) first last store world c s next) (sym disk) (record { crash = widens time (λ o none. absurd none); leaves = goes }))
+    (λ flash. subst (λ (f : StoreFault). Serves {T = T} basis print (Err f) first last store world c s next) (sym flash) (record { crash = widens time (λ o none. absurd none); leaves = goes }))
+    (λ disk. subst (λ (f : StoreFault). Serves {T = T} basis print (Err f) first last store world c s next) (sym disk) (record { crash = widens time (λ o none. absurd none); leaves = goes }))
     read
 
 -- the block of a row that is listed, or zeros
@@ -61,24 +61,24 @@ listed_row (given.Fresh fresh) b known row found = absurd (cc known)
 listed_row given.Zero b known row found = absurd (cc found)
 
 -- room was made, and then the step with a listed block or with zeros
-module _ (room : ℕ) (print : List ℕ → Fp) (old middle : StoreView) (before after : World) (c s : State) (its : Rec) (address : ℕ) (block : Block) (dirty : Bool) (bytes : List ℕ)
+module _ (basis : Basis) (print : List ℕ → Fp) (old middle : StoreView) (before after : World) (c s : State) (its : Rec) (address : ℕ) (block : Block) (dirty : Bool) (bytes : List ℕ)
     (cleans : Cleans old middle) (is : IsStore middle) (fits : RecordFits middle its (touch_by address block dirty (listing_in middle))) (known : is_fresh_block block ≡ false)
-    (kept : Kept room print old before c s) (carries : Carries print old before.flash.shown s (touch_by address block dirty (listing_in old)) bytes) where
-  there : (k : State) → Kept room print middle after k s → Carries print middle after.flash.shown s (touch_by address block dirty (listing_in middle)) bytes
+    (kept : Kept basis print old before c s) (carries : Carries print old before.flash.shown s (touch_by address block dirty (listing_in old)) bytes) where
+  there : (k : State) → Kept basis print middle after k s → Carries print middle after.flash.shown s (touch_by address block dirty (listing_in middle)) bytes
   there k held = subst (λ (t : Touch). Carries print middle after.flash.shown s t bytes) (sym (same_touch old middle cleans address block dirty))
       (carries_still print old middle before after s cleans kept.holds held.holds (touch_by address block dirty (listing_in old)) bytes (listed_row block old.table.b known) carries)
 
   pub joined : (first last : Clock) (new : StoreView) (done : Done) → new ≡ referred_store its (touch_by address block dirty (listing_in middle)) middle
-      → Serves {T = Unit {0}} room print (Ok tt) first last middle after c s s → Serves room print (Ok done) first last new after c s (reference (sizes_of old.journal.geo) s address bytes)
-  joined first last new done new_is serves = serves_then room print first last last middle new after after c s (reference (sizes_of old.journal.geo) s address bytes) (Ok done) serves.crash serves.leaves
+      → Serves {T = Unit {0}} basis print (Ok tt) first last middle after c s s → Serves basis print (Ok done) first last new after c s (reference (sizes_of old.journal.geo) s address bytes)
+  joined first last new done new_is serves = serves_then basis print first last last middle new after after c s (reference (sizes_of old.journal.geo) s address bytes) (Ok done) serves.crash serves.leaves
       (λ k held. record {
         crash = starts last _;
         leaves = record {
           committed = k;
           either = inl refl;
-          kept = subst (λ (v : StoreView). Kept room print v after k (reference (sizes_of old.journal.geo) s address bytes)) (sym new_is)
-              (subst (λ (g : Geometry). Kept room print (referred_store its (touch_by address block dirty (listing_in middle)) middle) after k (reference (sizes_of g) s address bytes)) cleans.geometry
-              (kept_referred print middle after s is held.holds its (touch_by address block dirty (listing_in middle)) bytes (refers_of print middle after.flash.shown s its _ bytes fits (there k held)) room k held));
+          kept = subst (λ (v : StoreView). Kept basis print v after k (reference (sizes_of old.journal.geo) s address bytes)) (sym new_is)
+              (subst (λ (g : Geometry). Kept basis print (referred_store its (touch_by address block dirty (listing_in middle)) middle) after k (reference (sizes_of g) s address bytes)) cleans.geometry
+              (kept_referred print middle after s is held.holds its (touch_by address block dirty (listing_in middle)) bytes (refers_of print middle after.flash.shown s its _ bytes fits (there k held)) basis k held));
         };
       })
 
@@ -102,11 +102,11 @@ module _ (print : List ℕ → Fp) (old middle : StoreView) (before after : Worl
       (tells_as print middle after s is held its (touch_by address block dirty (listing_in middle)) bytes (refers_of print middle after.flash.shown s its _ bytes fits still)) kind)
 
 -- a fault says nothing of the next state
-pub serves_fault : (room : ℕ) (T U : Type 0) (print : List ℕ → Fp) (first last : Clock) (store : StoreView) (world : World) (c s next other : State) (fault : StoreFault)
-    → Serves {T = T} room print (Err fault) first last store world c s next → Serves {T = U} room print (Err fault) first last store world c s other
-serves_fault room T U print first last store world c s next other fault serves = record { crash = serves.crash; leaves = by_fault fault serves.leaves }
+pub serves_fault : (basis : Basis) (T U : Type 0) (print : List ℕ → Fp) (first last : Clock) (store : StoreView) (world : World) (c s next other : State) (fault : StoreFault)
+    → Serves {T = T} basis print (Err fault) first last store world c s next → Serves {T = U} basis print (Err fault) first last store world c s other
+serves_fault basis T U print first last store world c s next other fault serves = record { crash = serves.crash; leaves = by_fault fault serves.leaves }
   where
-    by_fault : (f : StoreFault) → Leaves {T = T} room print (Err f) c s next store world → Leaves {T = U} room print (Err f) c s other store world
+    by_fault : (f : StoreFault) → Leaves {T = T} basis print (Err f) c s next store world → Leaves {T = U} basis print (Err f) c s other store world
     by_fault FlashRead h = h
     by_fault DiskRead h = h
     by_fault FlashWrite h = h

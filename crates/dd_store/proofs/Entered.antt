@@ -26,7 +26,7 @@ use Rattle.dd_journal.specs.Sitting.{JournalView}
 use Rattle.dd_store.specs.declared.fault.StoreFault.TheVariants.{FlashWrite}
 use Rattle.dd_store.specs.Bringing.{IsPrepared, Carries, answer_for}
 use Rattle.dd_store.specs.Keeping.{StoreView, IsStore, Holds, Kept, is_spare}
-use Rattle.dd_store.specs.Meaning.{Stands, sizes_of}
+use Rattle.dd_store.specs.Meaning.{Basis, Stands, sizes_of}
 use Rattle.dd_store.specs.Referring.{RecordFits, referred_store, listing_in}
 use Rattle.dd_store.specs.Serving.{HasLimits, Serves, store_of}
 use Rattle.dd_store.proofs.Answered.{refers_of, tells_as}
@@ -40,9 +40,9 @@ use Rattle.dd_store.proofs.Telling.{kind_miss, kind_new}
 use Rattle.dd_store.proofs.Uses.{spare_unlisted}
 
 -- a block whose write failed
-pub entered_failed : (room : ℕ) (print : List ℕ → Fp) (first last : Clock) (old new : StoreView) (world : World) (c s next : State) → Elapses first last (λ o. Stands room print o.flash o.disk c) → Kept room print old world c s
-    → Serves {T = Cut} room print (Err FlashWrite) first last new world c s next
-entered_failed room print first last old new world c s next crash kept = record {
+pub entered_failed : (basis : Basis) (print : List ℕ → Fp) (first last : Clock) (old new : StoreView) (world : World) (c s next : State) → Elapses first last (λ o. Stands basis print o.flash o.disk c) → Kept basis print old world c s
+    → Serves {T = Cut} basis print (Err FlashWrite) first last new world c s next
+entered_failed basis print first last old new world c s next crash kept = record {
   crash = widens crash (λ o stands. inl stands);
   leaves = λ flash disk flash_image disk_image. inl (kept.stands flash disk flash_image disk_image);
 }
@@ -92,8 +92,8 @@ module _ (is_up : Bool) (journal : JournalView) (lists : Listing) (count : ℕ) 
         pub entered_holds : Holds print (referred_store its touch was) world (reference (sizes_of journal.geo) s address block)
         entered_holds = holds_referred print was world s is holds its touch block (refers_of print was world.flash.shown s its touch block entered_fits carries)
 
-        pub entered_kept : (room : ℕ) (c : State) → Kept room print was world c s → Kept room print (referred_store its touch was) world c (reference (sizes_of journal.geo) s address block)
-        entered_kept room c kept = kept_referred print was world s is holds its touch block (refers_of print was world.flash.shown s its touch block entered_fits carries) room c kept
+        pub entered_kept : (basis : Basis) (c : State) → Kept basis print was world c s → Kept basis print (referred_store its touch was) world c (reference (sizes_of journal.geo) s address block)
+        entered_kept basis c kept = kept_referred print was world s is holds its touch block (refers_of print was world.flash.shown s its touch block entered_fits carries) basis c kept
 
         away : is_at_hand block s.blocks ≡ false
         away = ap (λ b. b || is_known block s.blocks) some ∙ unknown

@@ -18,6 +18,7 @@ use Rattle.dd_store.specs.Keeping.{StoreView, IsStore, Kept}
 use Rattle.dd_store.specs.Saving.{AreSlotsOf}
 use Rattle.dd_store.specs.Serving.{unlaid}
 use Rattle.dd_store.proofs.Uses.{used_then}
+use Rattle.dd_store.specs.Meaning.{Basis}
 
 -- what is laid is forgotten
 pub unlaid_is : (store : StoreView) → IsStore store → IsStore (unlaid store)
@@ -40,8 +41,8 @@ unlaid_is store is = record {
   laid_alone = inl refl;
 }
 
-pub kept_unlaid : (room : ℕ) (print : List ℕ → Fp) (store : StoreView) (world : World) (c s : State) → Kept room print store world c s → Kept room print (unlaid store) world c s
-kept_unlaid room print store world c s kept = record {
+pub kept_unlaid : (basis : Basis) (print : List ℕ → Fp) (store : StoreView) (world : World) (c s : State) → Kept basis print store world c s → Kept basis print (unlaid store) world c s
+kept_unlaid basis print store world c s kept = record {
   up = kept.up;
   pace = kept.pace;
   holds = record { means = kept.holds.means; laid = λ address never. absurd (cc never) };

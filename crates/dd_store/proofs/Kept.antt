@@ -21,7 +21,7 @@ use Rattle.dd_record.proofs.Replayed.{AreListed, replay_listed}
 use Rattle.dd_model.specs.State.{Entry, State, IsLinkedRightly, IsState, content, is_at_hand, is_known, is_zero_block}
 use Rattle.dd_model.specs.Rows.{LinkTells, RowTells, entry_of, held_block}
 use Rattle.dd_journal.specs.Regions.{AreGroups, Reading, Says, records_of}
-use Rattle.dd_store.specs.Meaning.{Stands, sizes_of}
+use Rattle.dd_store.specs.Meaning.{Basis, Stands, sizes_of}
 
 -- the records of right groups keep their rules
 all_append : (P : Rec → Type 0) (xs ys : List Rec) → AllByRecursion P xs → AllByRecursion P ys → AllByRecursion P (xs ++ ys)
@@ -116,8 +116,8 @@ all_linked print held array b [] tells fits = tt
 all_linked print held array b (row ∷ rows) tells fits = (linked_rightly print held b (content array row.address) row.link row.fp tells.0 fits.0, all_linked print held array b rows tells.1 fits.1)
 
 -- two devices stand for a state that keeps what holds of each state of their geometry
-pub stands_state : (room : ℕ) (print : List ℕ → Fp) (flash disk : List ℕ) (s : State) (m : Stands room print flash disk s) → IsState (sizes_of m.geo) s
-stands_state room print flash disk s m =
+pub stands_state : (basis : Basis) (print : List ℕ → Fp) (flash disk : List ℕ) (s : State) (m : Stands basis print flash disk s) → IsState (sizes_of m.geo) s
+stands_state basis print flash disk s m =
     let listed = says_listed flash m.geo 2 m.table m.count m.says in
     let room = says_size flash m.geo 2 m.table m.count m.says in
     let held = slot_block m.geo flash in

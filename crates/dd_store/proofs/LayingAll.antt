@@ -28,6 +28,7 @@ use Rattle.dd_store.proofs.Holding.{holds_unlaid}
 use Rattle.dd_store.proofs.Marking.{dirty_below}
 use Rattle.dd_store.proofs.MarkingAll.{among_at, not_before}
 use Rattle.dd_store.proofs.Walks.{all_take, apart_take, first_dirty, first_apart, first_some}
+use Rattle.dd_store.specs.Meaning.{Basis}
 
 -- the row of a dirty address is linked
 pub found_linked : (address : ℕ) (rows : List ARow) (row : ARow) → AllByRecursion IsDirtyLinked rows → is_dirty_at address rows ≡ true → a_row address rows ≡ Some row → is_link row.link ≡ true
@@ -146,18 +147,18 @@ module _ (store : StoreView) (addresses : List ℕ) (is : IsStore store) (may : 
         none = may.none;
       }
 
-  module _ (room : ℕ) (print : List ℕ → Fp) (world : World) (s : State) where
+  module _ (basis : Basis) (print : List ℕ → Fp) (world : World) (s : State) where
     -- before the first one
-    pub laid_none : Kept room print store world s s → Kept room print (all_laid [] store) world s s
-    laid_none kept = subst (λ (ns : List ℕ). Kept room print (all_laid ns store) world s s) may.unlaid kept
+    pub laid_none : Kept basis print store world s s → Kept basis print (all_laid [] store) world s s
+    laid_none kept = subst (λ (ns : List ℕ). Kept basis print (all_laid ns store) world s s) may.unlaid kept
 
     -- behind one more
-    pub laid_more : (i : ℕ) → i < length addresses → Kept room print (laid_store (get_or addresses i 0) (all_laid (take i addresses) store)) world s s → Kept room print (all_laid (take (suc i) addresses) store) world s s
-    laid_more i lt kept = subst (λ (ns : List ℕ). Kept room print (all_laid ns store) world s s) (taken_next addresses i lt) kept
+    pub laid_more : (i : ℕ) → i < length addresses → Kept basis print (laid_store (get_or addresses i 0) (all_laid (take i addresses) store)) world s s → Kept basis print (all_laid (take (suc i) addresses) store) world s s
+    laid_more i lt kept = subst (λ (ns : List ℕ). Kept basis print (all_laid ns store) world s s) (taken_next addresses i lt) kept
 
     -- what is laid may be forgotten
-    pub laid_lost : (ns : List ℕ) → Kept room print (all_laid ns store) world s s → Kept room print store world s s
-    laid_lost ns kept = subst (λ (ms : List ℕ). Kept room print (all_laid ms store) world s s) (sym may.unlaid) (kept_unlaid room print (all_laid ns store) world s s kept)
+    pub laid_lost : (ns : List ℕ) → Kept basis print (all_laid ns store) world s s → Kept basis print store world s s
+    laid_lost ns kept = subst (λ (ms : List ℕ). Kept basis print (all_laid ms store) world s s) (sym may.unlaid) (kept_unlaid basis print (all_laid ns store) world s s kept)
 
 -- the same of what it holds
 pub holds_lost : (store : StoreView) (addresses : List ℕ) → MayLayAll store addresses → (print : List ℕ → Fp) (world : World) (s : State) (ns : List ℕ) → Holds print (all_laid ns store) world s → Holds print store world s

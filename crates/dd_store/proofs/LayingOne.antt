@@ -19,7 +19,7 @@ use Rattle.dd_model.specs.State.{State}
 use Rattle.dd_model.specs.Listing.{IsLinkBelow}
 use Rattle.dd_store.specs.declared.fault.StoreFault.{StoreFault}
 use Rattle.dd_store.specs.declared.fault.StoreFault.TheVariants.{FlashRead, DiskWrite}
-use Rattle.dd_store.specs.Meaning.{Stands}
+use Rattle.dd_store.specs.Meaning.{Basis, Stands}
 use Rattle.dd_store.specs.Keeping.{StoreView, IsStore, Kept}
 use Rattle.dd_store.specs.Laying.{MayLay, MayLayRow, laid_store, IsPlacedRow}
 use Rattle.dd_store.specs.Serving.{Serves}
@@ -82,25 +82,25 @@ module _ (store : StoreView) (is : IsStore store) (address : ℕ) (row : ARow) (
   }
 
 -- what the call serves
-module _ (room : ℕ) (print : List ℕ → Fp) (store : StoreView) (old : World) (flash_shows : IsImage old.flash old.flash.shown) (disk_shows : IsImage old.disk old.disk.shown) (c s : State) (is : IsStore store) (kept : Kept room print store old c s)
+module _ (basis : Basis) (print : List ℕ → Fp) (store : StoreView) (old : World) (flash_shows : IsImage old.flash old.flash.shown) (disk_shows : IsImage old.disk old.disk.shown) (c s : State) (is : IsStore store) (kept : Kept basis print store old c s)
     (none : store.pending ≡ []) where
-  pub one_state : Kept room print store old s s
-  one_state = subst (λ (state : State). Kept room print store old state s) (nothing_pending room print store old flash_shows disk_shows c s is kept none).1 kept
+  pub one_state : Kept basis print store old s s
+  one_state = subst (λ (state : State). Kept basis print store old state s) (nothing_pending basis print store old flash_shows disk_shows c s is kept none).1 kept
 
-module _ (room : ℕ) (print : List ℕ → Fp) (new : World) (c s : State) (first last : Clock) (crash : Elapses first last (λ o. Stands room print o.flash o.disk s)) where
+module _ (basis : Basis) (print : List ℕ → Fp) (new : World) (c s : State) (first last : Clock) (crash : Elapses first last (λ o. Stands basis print o.flash o.disk s)) where
   -- behind Ok, or a failed read
-  pub lay_serves : {T : Type 0} (value : T) (store : StoreView) → Kept room print store new s s → Serves {T = T} room print (Ok value) first last store new c s s
+  pub lay_serves : {T : Type 0} (value : T) (store : StoreView) → Kept basis print store new s s → Serves {T = T} basis print (Ok value) first last store new c s s
   lay_serves value store held = record { crash = widens crash (λ o stands. inr stands); leaves = record { committed = s; either = inr refl; kept = held } }
 
-  pub read_fails : {T : Type 0} (fault : StoreFault) → fault ≡ FlashRead → (store : StoreView) → Kept room print store new s s → Serves {T = T} room print (Err fault) first last store new c s s
+  pub read_fails : {T : Type 0} (fault : StoreFault) → fault ≡ FlashRead → (store : StoreView) → Kept basis print store new s s → Serves {T = T} basis print (Err fault) first last store new c s s
   read_fails {T} fault is store held =
-      subst (λ (f : StoreFault). Serves {T = T} room print (Err f) first last store new c s s) (sym is)
+      subst (λ (f : StoreFault). Serves {T = T} basis print (Err f) first last store new c s s) (sym is)
       (record { crash = widens crash (λ o stands. inr stands); leaves = record { committed = s; either = inr refl; kept = held } })
 
   -- behind a failed write
-  pub write_fails : {T : Type 0} (fault : StoreFault) → fault ≡ DiskWrite → (store down : StoreView) → Kept room print store new s s → Serves {T = T} room print (Err fault) first last down new c s s
+  pub write_fails : {T : Type 0} (fault : StoreFault) → fault ≡ DiskWrite → (store down : StoreView) → Kept basis print store new s s → Serves {T = T} basis print (Err fault) first last down new c s s
   write_fails {T} fault is store down held =
-      subst (λ (f : StoreFault). Serves {T = T} room print (Err f) first last down new c s s) (sym is) (record {
+      subst (λ (f : StoreFault). Serves {T = T} basis print (Err f) first last down new c s s) (sym is) (record {
         crash = widens crash (λ o stands. inr stands);
         leaves = λ flash disk flash_image disk_image. inr (held.stands flash disk flash_image disk_image);
       })

@@ -20,10 +20,11 @@ use Rattle.dd_store.specs.Laying.{MayLayRow}
 use Rattle.dd_store.specs.Saving.{AreSlotsOf}
 use Rattle.dd_store.proofs.Saving.{block_there}
 use Rattle.dd_store.proofs.Sole.{length_at}
+use Rattle.dd_store.specs.Meaning.{Basis}
 
 -- a call that leaves the world as it was
-pub kept_read : (room : ℕ) (print : List ℕ → Fp) (store : StoreView) (old new : World) (c s : State) → new ≡ old → Kept room print store old c s → Kept room print store new c s
-kept_read room print store old new c s same kept = subst (λ (w : World). Kept room print store w c s) (sym same) kept
+pub kept_read : (basis : Basis) (print : List ℕ → Fp) (store : StoreView) (old new : World) (c s : State) → new ≡ old → Kept basis print store old c s → Kept basis print store new c s
+kept_read basis print store old new c s same kept = subst (λ (w : World). Kept basis print store w c s) (sym same) kept
 
 pub holds_read : (print : List ℕ → Fp) (store : StoreView) (old new : World) (s : State) → new ≡ old → Holds print store old s → Holds print store new s
 holds_read print store old new s same holds = subst (λ (w : World). Holds print store w s) (sym same) holds

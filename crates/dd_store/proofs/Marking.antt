@@ -1,5 +1,5 @@
 -- The disk is synced: the laid addresses become clean, and their records are pending.
-use Rattle.std.proofs.Common.{◌≡◌, inl, ℕ, ◌+◌, ◌*◌, ◌<◌, ◌≤◌, ◌==◌, length, Bool, true, false, List, [], ◌∷◌, refl, sym, ◌∙◌, ap, subst, arith, Some, None, if◌then◌else◌, cond}
+use Rattle.std.proofs.Common.{drop, ◌≡◌, inl, ℕ, ◌+◌, ◌*◌, ◌<◌, ◌≤◌, ◌==◌, length, Bool, true, false, List, [], ◌∷◌, refl, sym, ◌∙◌, ap, subst, arith, Some, None, if◌then◌else◌, cond}
 use Rattle.std.specs.Prelude.{◌||◌, ◌&&◌, not, option_and_then, count_by, Result, Ok, Err, OnErr}
 use Rattle.std.specs.List.{AllByRecursion, IsDistinct}
 use Rattle.std.proofs.lemmas.Bool.{eqb-true}
@@ -7,7 +7,7 @@ use Rattle.std.proofs.lemmas.List.{length-map}
 use Rattle.dd_block.specs.Bytes.{part}
 use Rattle.dd_block.specs.declared.print.Fp.{Fp}
 use Rattle.dd_block.specs.declared.geometry.Geometry.{Geometry}
-use Rattle.dd_layout.specs.Layout.{slot_block, disk_block}
+use Rattle.dd_layout.specs.Layout.{disk_need, slot_block, disk_block}
 use Rattle.dd_rig.specs.declared.device.Dev.TheVariants.{Disk}
 use Rattle.dd_rig.specs.Device.{IsImage, make_stable}
 use Rattle.dd_rig.specs.World.{World, on_device}
@@ -27,7 +27,7 @@ use Rattle.dd_model.proofs.RecordLaws.{shows-cleaned}
 use Rattle.dd_journal.specs.Sitting.{IsStablePart}
 use Rattle.dd_journal.proofs.Reaching.{synced_is_stable}
 use Rattle.dd_store.specs.Keeping.{StoreView, IsStore, Holds, Kept, NamesKept, StaysInPace}
-use Rattle.dd_store.specs.Meaning.{sizes_of, dirty_rows}
+use Rattle.dd_store.specs.Meaning.{Basis, sizes_of, dirty_rows}
 use Rattle.dd_store.specs.Laying.{all_cleaned, all_without, clean_records, marked_store}
 use Rattle.dd_store.proofs.Committing.{nothing_pending}
 use Rattle.dd_store.proofs.Pace.{cleaned_fewer}
@@ -131,13 +131,13 @@ module _ (print : List ℕ → Fp) (store : StoreView) (old : World) (s : State)
     laid = λ address never. absurd (cc never);
   }
 
-module _ (room : ℕ) (print : List ℕ → Fp) (store : StoreView) (old : World) (flash_shows : IsImage old.flash old.flash.shown) (disk_shows : IsImage old.disk old.disk.shown)
-    (s : State) (is : IsStore store) (kept : Kept room print store old s s) (none : store.pending ≡ []) where
+module _ (basis : Basis) (print : List ℕ → Fp) (store : StoreView) (old : World) (flash_shows : IsImage old.flash old.flash.shown) (disk_shows : IsImage old.disk old.disk.shown)
+    (s : State) (is : IsStore store) (kept : Kept basis print store old s s) (none : store.pending ≡ []) where
   rows_are : kept.rows ≡ store.table
-  rows_are = (nothing_pending room print store old flash_shows disk_shows s s is kept none).0
+  rows_are = (nothing_pending basis print store old flash_shows disk_shows s s is kept none).0
 
-  sure : Sure room print store.journal old kept.rows s
-  sure = sure_of room print store old flash_shows disk_shows s s kept
+  sure : Sure basis print store.journal old kept.rows s
+  sure = sure_of basis print store old flash_shows disk_shows s s kept
 
   abbrev synced : World
   synced = on_device Disk make_stable old
@@ -145,7 +145,7 @@ module _ (room : ℕ) (print : List ℕ → Fp) (store : StoreView) (old : World
   all_stable : (at n : ℕ) → IsStablePart synced.disk at n
   all_stable at n = λ bytes image. ap (λ (b : List ℕ). part b at n) (synced_is_stable old.disk bytes image)
 
-  sure_synced : Sure room print store.journal synced kept.rows s
+  sure_synced : Sure basis print store.journal synced kept.rows s
   sure_synced = record {
     version = sure.version;
     sits = record { stable = sure.sits.stable; each = sure.sits.each };
@@ -155,12 +155,14 @@ module _ (room : ℕ) (print : List ℕ → Fp) (store : StoreView) (old : World
     blocks = λ address below clean. all_stable (address * store.journal.geo.block) store.journal.geo.block;
     means = sure.means;
     size = omega (arith, sure.size, disk_shows.same_length);
+    flash_behind = sure.flash_behind;
+    disk_behind = λ bytes image. ap (λ (b : List ℕ). drop (disk_need store.journal.geo) b) (synced_is_stable old.disk bytes image) ∙ sure.disk_behind old.disk.shown disk_shows;
   }
 
   -- behind a sync of the disk that succeeded
-  pub kept_marked : Kept room print (marked_store store) synced s s
+  pub kept_marked : Kept basis print (marked_store store) synced s s
   kept_marked =
-      kept_of room print (marked_store store) synced kept.rows s s sure_synced kept.up (pace_marked room store is kept.pace)
+      kept_of basis print (marked_store store) synced kept.rows s s sure_synced kept.up (pace_marked basis.room store is kept.pace)
       (holds_marked print store old s kept.holds)
       (subst (λ (t : Table). replay store.journal.geo.acap store.journal.geo.bcap (clean_records store.laid) t ≡ Some (record store.table { a = all_cleaned store.laid store.table.a })) (sym rows_are)
       (replay_cleans store.journal.geo.acap store.journal.geo.bcap store.laid store.table is.laid_once (laid_dirty store is)))
@@ -168,9 +170,9 @@ module _ (room : ℕ) (print : List ℕ → Fp) (store : StoreView) (old : World
       (λ address below clean. all_stable (address * store.journal.geo.block) store.journal.geo.block)
 
 -- a sync that failed changes nothing
-pub on_err_stays : {T E : Type 0} (room : ℕ) (print : List ℕ → Fp) (result : Result T E) (store : StoreView) (old new : World) (c s : State) → OnErr result (new ≡ old) → OnErr result (Kept room print store old c s → Kept room print store new c s)
-on_err_stays room print (Ok done) store old new c s same = tt
-on_err_stays room print (Err e) store old new c s same = λ kept. subst (λ (w : World). Kept room print store w c s) (sym same) kept
+pub on_err_stays : {T E : Type 0} (basis : Basis) (print : List ℕ → Fp) (result : Result T E) (store : StoreView) (old new : World) (c s : State) → OnErr result (new ≡ old) → OnErr result (Kept basis print store old c s → Kept basis print store new c s)
+on_err_stays basis print (Ok done) store old new c s same = tt
+on_err_stays basis print (Err e) store old new c s same = λ kept. subst (λ (w : World). Kept basis print store w c s) (sym same) kept
 
 -- Behind a mark a store keeps what its type keeps.
 none_raise : (ns : List ℕ) → count_by raises (clean_records ns) ≡ 0

@@ -1,5 +1,5 @@
 -- A store over devices that are stable and stand for a state by its rows.
-use Rattle.std.proofs.Common.{◌≡◌, inl, ℕ, ◌*◌, ◌<◌, ◌≤◌, ◌==◌, Bool, true, false, List, [], ◌∷◌, length, refl, ap, subst, sym, ◌∙◌, arith, Some, if◌then◌else◌}
+use Rattle.std.proofs.Common.{◌≡◌, inl, ℕ, ◌*◌, ◌<◌, ◌≤◌, ◌==◌, Bool, true, false, List, [], ◌∷◌, length, drop, refl, ap, subst, sym, ◌∙◌, arith, Some, if◌then◌else◌}
 use Rattle.std.specs.Prelude.{IsTrue, ◌||◌, slice_get}
 use Rattle.std.specs.List.{AllByRecursion, IsDistinct}
 use Rattle.std.proofs.lemmas.Bool.{eqb-true}
@@ -7,7 +7,7 @@ use Rattle.dd_block.specs.Bytes.{part}
 use Rattle.dd_block.specs.Geometry.{slot_count}
 use Rattle.dd_block.specs.declared.geometry.Geometry.{Geometry}
 use Rattle.dd_block.specs.declared.print.Fp.{Fp}
-use Rattle.dd_layout.specs.Layout.{slot_at, disk_need}
+use Rattle.dd_layout.specs.Layout.{slot_at, flash_need, disk_need}
 use Rattle.dd_rig.specs.Device.{IsImage}
 use Rattle.dd_rig.specs.World.{World}
 use Rattle.dd_slots.specs.Numbers.{is_among}
@@ -24,7 +24,7 @@ use Rattle.dd_model.specs.State.{State}
 use Rattle.dd_model.specs.Listing.{Listing, IsListing}
 use Rattle.dd_journal.specs.Regions.{AreRows}
 use Rattle.dd_journal.specs.Sitting.{JournalView, Sits, IsStable}
-use Rattle.dd_store.specs.Meaning.{Means, KeepsPace}
+use Rattle.dd_store.specs.Meaning.{Basis, Means, KeepsPace, HasBehind}
 use Rattle.dd_store.specs.Keeping.{StoreView, Kept, IsStore}
 use Rattle.dd_store.specs.Saving.{AreUsesOf, AreSlotsOf}
 use Rattle.dd_store.specs.Serving.{store_of}
@@ -32,24 +32,26 @@ use Rattle.dd_store.proofs.Sure.{kept_of}
 use Rattle.dd_store.proofs.Uses.{listed_kept}
 
 -- what it holds is committed
-pub kept_new : (room : ℕ) (print : List ℕ → Fp) (store : StoreView) (world : World) (s : State) → IsTrue store.is_up → IsStore store → store.pending ≡ [] → store.laid ≡ []
+pub kept_new : (basis : Basis) (print : List ℕ → Fp) (store : StoreView) (world : World) (s : State) → IsTrue store.is_up → IsStore store → store.pending ≡ [] → store.laid ≡ []
     → IsStable world.flash → IsStable world.disk → disk_need store.journal.geo ≤ length world.disk.stable
     → Sits store.journal world store.table
-    → KeepsPace room store.journal.epoch store.table.a store.count → Means print store.journal.geo world.flash.shown world.disk.shown store.table store.count s → Kept room print store world s s
-kept_new room print store world s up is none unlaid flash disk sized sits pace means =
+    → KeepsPace basis.room store.journal.epoch store.table.a store.count → HasBehind basis store.journal.geo world.flash.shown world.disk.shown → Means print store.journal.geo world.flash.shown world.disk.shown store.table store.count s → Kept basis print store world s s
+kept_new basis print store world s up is none unlaid flash disk sized sits pace behind means =
     let blocks = λ (address : ℕ) (below : address < store.journal.geo.blocks) (clean : is_dirty_at address store.table.a ≡ false) (bytes : List ℕ) (image : IsImage world.disk bytes).
     ap (λ (b : List ℕ). part b (address * store.journal.geo.block) store.journal.geo.block) (disk bytes image) in
     let counted : store.count ≡ store.journal.committed = is.counted ∙ ap (λ (recs : List Rec). count_after store.journal.committed recs) none ∙ omega arith in
-    kept_of room print store world store.table s s
+    kept_of basis print store world store.table s s
     (record {
       version = is.version;
       sits = sits;
-      pace = subst (λ (n : ℕ). KeepsPace room store.journal.epoch store.table.a n) counted pace;
+      pace = subst (λ (n : ℕ). KeepsPace basis.room store.journal.epoch store.table.a n) counted pace;
       fit = is.fit;
       slots = λ slot listed bytes image. ap (λ (b : List ℕ). part b (slot_at store.journal.geo slot) store.journal.geo.block) (flash bytes image);
       blocks = blocks;
       means = subst (λ (n : ℕ). Means print store.journal.geo world.flash.shown world.disk.shown store.table n s) counted means;
       size = sized;
+      flash_behind = λ bytes image. ap (λ (b : List ℕ). drop (flash_need store.journal.geo) b) (flash bytes image) ∙ behind.0;
+      disk_behind = λ bytes image. ap (λ (b : List ℕ). drop (disk_need store.journal.geo) b) (disk bytes image) ∙ behind.1;
     })
     up
     (let empty = ap (λ (recs : List Rec). length recs) none in omega (arith, pace, empty))

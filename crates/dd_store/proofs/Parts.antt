@@ -32,6 +32,11 @@ pub part_outside : (at size from n : ℕ) (one another : List ℕ) → length on
 part_outside at size from n one another long same apart =
     same_bytes another one from n (sym long) (λ k lt. same (from + k) (⊎_elim (λ before. inl (omega arith)) (λ behind. inr (omega arith)) apart))
 
+-- and so is what lies behind it
+pub behind_same : (need at size : ℕ) (one another : List ℕ) → length one ≡ length another → SameOutside at size one another → at + size ≤ need → drop need another ≡ drop need one
+behind_same need at size one another long same within = ext_get_or 0 (drop need another) (drop need one) (omega (arith, long, length-drop need one, length-drop need another))
+    (λ k lt. get_or-drop need another k 0 ∙ same (need + k) (inr (omega (arith, within))) ∙ sym (get_or-drop need one k 0))
+
 -- two slots, or two blocks, lie apart
 times_apart : (s t n : ℕ) → s < t → s * n + n ≤ t * n
 times_apart s t n h = grind arith

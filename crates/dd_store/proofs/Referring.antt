@@ -21,7 +21,7 @@ use Rattle.dd_model.specs.Rows.{held_block}
 use Rattle.dd_model.proofs.Slots.{held_all, listed_alone, HoldsAlone}
 use Rattle.dd_model.proofs.RecordLaws.{HasBlock, MayMove, shows-touched, links-fit}
 use Rattle.dd_model.proofs.Dirty.{dirty_touched}
-use Rattle.dd_store.specs.Meaning.{Means, sizes_of}
+use Rattle.dd_store.specs.Meaning.{Basis, Means, sizes_of}
 use Rattle.dd_store.specs.Keeping.{StoreView, IsStore, Holds, Kept}
 use Rattle.dd_store.specs.Referring.{IsThere, IsPlaced, RecordFits, Refers, referred_store}
 use Rattle.dd_store.proofs.Pace.{pace_referred}
@@ -156,10 +156,10 @@ module _ (print : List ℕ → Fp) (store : StoreView) (world : World) (s : Stat
   holds_referred = record { means = means_after; laid = λ address never. absurd (cc never) }
 
   -- and what is committed stays
-  pub kept_referred : (room : ℕ) (c : State) → Kept room print store world c s → Kept room print (referred_store rec touch store) world c (reference (sizes_of store.journal.geo) s touch.address block)
-  kept_referred room c kept = record {
+  pub kept_referred : (basis : Basis) (c : State) → Kept basis print store world c s → Kept basis print (referred_store rec touch store) world c (reference (sizes_of store.journal.geo) s touch.address block)
+  kept_referred basis c kept = record {
     up = kept.up;
-    pace = pace_referred room rec touch store kept.pace;
+    pace = pace_referred basis.room rec touch store kept.pace;
     holds = holds_referred;
     counted = kept.counted;
     stands = kept.stands;

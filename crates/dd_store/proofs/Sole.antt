@@ -18,7 +18,7 @@ use Rattle.dd_model.specs.Rows.{HoldsContent, LinkHolds, LinkTells, RowTells}
 use Rattle.dd_model.proofs.Zeros.{zeros_same}
 use Rattle.dd_journal.specs.Regions.{Reading, Says, records_of}
 use Rattle.dd_journal.proofs.Sole.{spells_one}
-use Rattle.dd_store.specs.Meaning.{HasClean, Means, MeansInVersion1, Stands, StandsInVersion1}
+use Rattle.dd_store.specs.Meaning.{Basis, HasClean, Means, MeansInVersion1, Stands, StandsInVersion1}
 
 -- of a dirty row, what its link tells of two contents makes them one
 linked_same : (print : List ℕ → Fp) (held : ℕ → List ℕ) (link : Link) (fp : Fp) (x y : List ℕ) → is_link link ≡ true → length x ≡ length y
@@ -127,8 +127,8 @@ pub epoch_one : (flash : List ℕ) (version : ℕ) (geo : Geometry) (table : Tab
 epoch_one flash version geo table count other rows number m n = ap (λ (r : Reading). r.epoch) (spells_one flash m.reading n.reading m.spells n.spells)
 
 -- two devices stand for at most one state
-pub stands_one : (room other : ℕ) (print : List ℕ → Fp) (flash disk : List ℕ) (s t : State) → Stands room print flash disk s → Stands other print flash disk t → s ≡ t
-stands_one room other print flash disk s t m n =
+pub stands_one : (basis other : Basis) (print : List ℕ → Fp) (flash disk : List ℕ) (s t : State) → Stands basis print flash disk s → Stands other print flash disk t → s ≡ t
+stands_one basis other print flash disk s t m n =
     let one = says_one flash 2 m.geo m.table m.count n.geo n.table n.count m.says n.says in
     means_one print n.geo flash disk n.table n.count s t (says_linked flash n.geo 2 n.table n.count n.says)
     (subst (λ (c : ℕ). Means print n.geo flash disk n.table c s) one.same_count
@@ -147,8 +147,8 @@ stands_one_in_version_1 print flash disk s t m n =
     n.means
 
 -- a flash has one version, so devices that stand for a state stand for none by the other version
-pub one_version : (room : ℕ) (print : List ℕ → Fp) (flash disk : List ℕ) (s t : State) → Stands room print flash disk s → StandsInVersion1 print flash disk t → ⊥
-one_version room print flash disk s t m n =
+pub one_version : (basis : Basis) (print : List ℕ → Fp) (flash disk : List ℕ) (s t : State) → Stands basis print flash disk s → StandsInVersion1 print flash disk t → ⊥
+one_version basis print flash disk s t m n =
     let same : m.says.reading ≡ n.says.reading = spells_one flash m.says.reading n.says.reading m.says.spells n.says.spells in
     let version : m.says.reading.version ≡ n.says.reading.version = ap (λ (r : Reading). r.version) same in
     omega (arith, version, m.says.versioned, n.says.versioned)

@@ -8,16 +8,16 @@ use Rattle.dd_record.specs.declared.rec.Rec.{Rec}
 use Rattle.dd_record.specs.Table.{Table}
 use Rattle.dd_model.specs.State.{State}
 use Rattle.dd_journal.specs.Sitting.{JournalView}
-use Rattle.dd_store.specs.Meaning.{Stands}
+use Rattle.dd_store.specs.Meaning.{Basis, Stands}
 use Rattle.dd_store.specs.Keeping.{StoreView}
 
 -- both devices stand for one of two states
-abbrev pub StandForEither : (room : ℕ) → (List ℕ → Fp) → (one another : State) → (flash disk : List ℕ) → Type 0
-StandForEither room print one another flash disk = Stands room print flash disk one ⊎ Stands room print flash disk another
+abbrev pub StandForEither : (basis : Basis) → (List ℕ → Fp) → (one another : State) → (flash disk : List ℕ) → Type 0
+StandForEither basis print one another flash disk = Stands basis print flash disk one ⊎ Stands basis print flash disk another
 
 -- whatever a crash leaves now stands for one of two states
-abbrev pub AllStandForEither : (room : ℕ) → (List ℕ → Fp) → (one another : State) → World → Type 0
-AllStandForEither room print one another world = (flash disk : List ℕ) → IsImage world.flash flash → IsImage world.disk disk → StandForEither room print one another flash disk
+abbrev pub AllStandForEither : (basis : Basis) → (List ℕ → Fp) → (one another : State) → World → Type 0
+AllStandForEither basis print one another world = (flash disk : List ℕ) → IsImage world.flash flash → IsImage world.disk disk → StandForEither basis print one another flash disk
 
 -- a store with this journal, these rows and this count, and these pending records
 abbrev pub with_parts : StoreView → JournalView → Table → ℕ → List Rec → StoreView

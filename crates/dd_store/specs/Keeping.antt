@@ -19,7 +19,7 @@ use Rattle.dd_record.specs.Replay.{replay, count_after}
 use Rattle.dd_model.specs.State.{State, content}
 use Rattle.dd_journal.specs.Regions.{AreRows}
 use Rattle.dd_journal.specs.Sitting.{JournalView, Sits, IsStablePart}
-use Rattle.dd_store.specs.Meaning.{Means, Stands, dirty_rows}
+use Rattle.dd_store.specs.Meaning.{Basis, Means, Stands, dirty_rows}
 
 -- what a contract sees of a store
 pub record StoreView : Type 0 where
@@ -43,8 +43,8 @@ abbrev pub is_spare : ℕ → List Usage → Bool
 is_spare slot uses = is_free (slice_get uses slot)
 
 -- whatever a crash leaves now stands for this state
-abbrev pub AllStand : ℕ → (List ℕ → Fp) → World → State → Type 0
-AllStand room print world s = (flash disk : List ℕ) → IsImage world.flash flash → IsImage world.disk disk → Stands room print flash disk s
+abbrev pub AllStand : Basis → (List ℕ → Fp) → World → State → Type 0
+AllStand basis print world s = (flash disk : List ℕ) → IsImage world.flash flash → IsImage world.disk disk → Stands basis print flash disk s
 
 -- over what both devices show, the store's rows and count mean this state, and the disk has the content of each laid address
 pub record Holds (print : List ℕ → Fp) (store : StoreView) (world : World) (s : State) : Type 0 where
@@ -63,17 +63,17 @@ abbrev pub IsStableBlock : Geometry → World → ℕ → Type 0
 IsStableBlock geo world address = IsStablePart world.disk (address * geo.block) geo.block
 
 -- the epoch keeps pace with the count, behind a commit of what is pending too
-abbrev pub StaysInPace : ℕ → StoreView → Type 0
+abbrev pub StaysInPace : (room : ℕ) → StoreView → Type 0
 StaysInPace room store = store.journal.epoch + length store.pending + 2 * dirty_rows store.table.a ≤ 3 * store.count + room
 
 -- The store holds one state, and the devices are sure of another one, the committed one. It holds between any two calls of the rig.
-pub record Kept (room : ℕ) (print : List ℕ → Fp) (store : StoreView) (world : World) (committed held : State) : Type 0 where
+pub record Kept (basis : Basis) (print : List ℕ → Fp) (store : StoreView) (world : World) (committed held : State) : Type 0 where
   pub up : IsTrue store.is_up
-  pub pace : StaysInPace room store
+  pub pace : StaysInPace basis.room store
   pub holds : Holds print store world held
   pub counted : committed.count ≡ store.journal.committed
   -- whatever a crash leaves stands for the committed state, and the journal sits on the rig with these rows
-  pub stands : AllStand room print world committed
+  pub stands : AllStand basis print world committed
   pub rows : Table
   pub sits : Sits store.journal world rows
   pub fit : RowsFit rows

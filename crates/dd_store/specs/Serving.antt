@@ -20,6 +20,7 @@ use Rattle.dd_store.specs.declared.fault.StoreFault.TheVariants.{FlashRead, Disk
 use Rattle.dd_store.specs.Keeping.{StoreView, Holds, Kept}
 use Rattle.dd_store.specs.Committing.{StandForEither, AllStandForEither, committed_store}
 use Rattle.dd_store.specs.Laying.{laid_store, marked_store}
+use Rattle.dd_store.specs.Meaning.{Basis}
 
 -- when a store may lay and mark: it is up, and the devices are large enough
 pub record IsReady (store : StoreView) (size : Dev → ℕ) : Type 0 where
@@ -36,25 +37,25 @@ pub record MayCall (store : StoreView) (size : Dev → ℕ) : Type 0 where
   pub disk : disk_need store.journal.geo ≤ size Disk
 
 -- a store that is up holds this state, and has committed one of two
-pub record GoesOn (room : ℕ) (print : List ℕ → Fp) (c s : State) (store : StoreView) (world : World) (held : State) : Type 0 where
+pub record GoesOn (basis : Basis) (print : List ℕ → Fp) (c s : State) (store : StoreView) (world : World) (held : State) : Type 0 where
   pub committed : State
   pub either : (committed ≡ c) ⊎ (committed ≡ s)
-  pub kept : Kept room print store world committed held
+  pub kept : Kept basis print store world committed held
 
 -- where a call leaves the devices: after Ok the store holds the next state; after a failed read it holds what it held; after a failed
 -- write or sync a crash leaves one of the two that it might have left before
-abbrev pub Leaves : {T : Type 0} → (room : ℕ) → (List ℕ → Fp) → Result T StoreFault → (c s next : State) → StoreView → World → Type 0
-Leaves room print (Ok answer) c s next store world = GoesOn room print c s store world next
-Leaves room print (Err FlashRead) c s next store world = GoesOn room print c s store world s
-Leaves room print (Err DiskRead) c s next store world = GoesOn room print c s store world s
-Leaves room print (Err FlashWrite) c s next store world = AllStandForEither room print c s world
-Leaves room print (Err DiskWrite) c s next store world = AllStandForEither room print c s world
+abbrev pub Leaves : {T : Type 0} → (basis : Basis) → (List ℕ → Fp) → Result T StoreFault → (c s next : State) → StoreView → World → Type 0
+Leaves basis print (Ok answer) c s next store world = GoesOn basis print c s store world next
+Leaves basis print (Err FlashRead) c s next store world = GoesOn basis print c s store world s
+Leaves basis print (Err DiskRead) c s next store world = GoesOn basis print c s store world s
+Leaves basis print (Err FlashWrite) c s next store world = AllStandForEither basis print c s world
+Leaves basis print (Err DiskWrite) c s next store world = AllStandForEither basis print c s world
 
 -- A call on a store that holds s and has committed c: a crash within it leaves devices that stand for c or for s, and behind it
 -- the store goes on, with the next state after Ok.
-pub record Serves {T : Type 0} (room : ℕ) (print : List ℕ → Fp) (result : Result T StoreFault) (before after : Clock) (store : StoreView) (world : World) (c s next : State) : Type 0 where
-  pub crash : Elapses before after (λ o. StandForEither room print c s o.flash o.disk)
-  pub leaves : Leaves room print result c s next store world
+pub record Serves {T : Type 0} (basis : Basis) (print : List ℕ → Fp) (result : Result T StoreFault) (before after : Clock) (store : StoreView) (world : World) (c s next : State) : Type 0 where
+  pub crash : Elapses before after (λ o. StandForEither basis print c s o.flash o.disk)
+  pub leaves : Leaves basis print result c s next store world
 
 -- what the store holds behind a call, whatever is committed: after Ok the next state, and after a failed read what it held
 abbrev pub HoldsThen : {T : Type 0} → (List ℕ → Fp) → Result T StoreFault → (s next : State) → StoreView → World → Type 0

@@ -10,6 +10,7 @@ ghost use Rattle.dd_journal.specs.Calls.{Commits, FailsByFlash, CostsOfCommit};
 ghost use Rattle.dd_journal.specs.Sitting.{MayCommit, regions_size};
 ghost use Rattle.dd_store.specs.Keeping.{StoreView, IsStore, Holds, Kept, slots_shown};
 ghost use Rattle.dd_store.specs.Committing.{StandForEither, AllStandForEither, with_parts, committed_store};
+ghost use Rattle.dd_store.specs.Meaning.{Basis};
 
 use dd_journal::Journal;
 use dd_model::Lists;
@@ -30,18 +31,18 @@ pub fn commit_rows<R: Rig, L: Lists>(
     requires epoch { journal.old.epoch < 2 ^ 64 - 1 }
     requires given { MayCommit journal.old (L.listing lists.now).table count pending.now }
     requires flash { flash_need journal.old.geo ≤ R.device_size rig.old Flash }
-    ensures crash { R.tells → (room : ℕ) (print : List ℕ → Fp) (store : StoreView) (c s : State)
+    ensures crash { R.tells → (basis : Basis) (print : List ℕ → Fp) (store : StoreView) (c s : State)
         → IsStore (with_parts store journal.old (L.listing lists.now).table count pending.now)
-        → Kept room print (with_parts store journal.old (L.listing lists.now).table count pending.now) (R.world rig.old) c s
-        → Elapses (R.clock rig.old) (R.clock rig.new) (λ o. StandForEither room print c s o.flash o.disk) }
-    ensures now { R.tells → (room : ℕ) (print : List ℕ → Fp) (store : StoreView) (c s : State)
+        → Kept basis print (with_parts store journal.old (L.listing lists.now).table count pending.now) (R.world rig.old) c s
+        → Elapses (R.clock rig.old) (R.clock rig.new) (λ o. StandForEither basis print c s o.flash o.disk) }
+    ensures now { R.tells → (basis : Basis) (print : List ℕ → Fp) (store : StoreView) (c s : State)
         → IsStore (with_parts store journal.old (L.listing lists.now).table count pending.now)
-        → Kept room print (with_parts store journal.old (L.listing lists.now).table count pending.now) (R.world rig.old) c s
-        → AllStandForEither room print c s (R.world rig.new) }
-    ensures kept { R.tells → (room : ℕ) (print : List ℕ → Fp) (store : StoreView) (c s : State)
+        → Kept basis print (with_parts store journal.old (L.listing lists.now).table count pending.now) (R.world rig.old) c s
+        → AllStandForEither basis print c s (R.world rig.new) }
+    ensures kept { R.tells → (basis : Basis) (print : List ℕ → Fp) (store : StoreView) (c s : State)
         → IsStore (with_parts store journal.old (L.listing lists.now).table count pending.now)
-        → Kept room print (with_parts store journal.old (L.listing lists.now).table count pending.now) (R.world rig.old) c s
-        → OnOk result (Kept room print (committed_store (with_parts store journal.old (L.listing lists.now).table count pending.now) journal.new) (R.world rig.new) s s) }
+        → Kept basis print (with_parts store journal.old (L.listing lists.now).table count pending.now) (R.world rig.old) c s
+        → OnOk result (Kept basis print (committed_store (with_parts store journal.old (L.listing lists.now).table count pending.now) journal.new) (R.world rig.new) s s) }
     ensures holds { R.tells → (print : List ℕ → Fp) (store : StoreView) (s : State)
         → IsStore (with_parts store journal.old (L.listing lists.now).table count pending.now)
         → Holds print (with_parts store journal.old (L.listing lists.now).table count pending.now) (R.world rig.old) s

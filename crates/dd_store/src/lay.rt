@@ -9,7 +9,7 @@ ghost use Rattle.dd_slots.specs.Slots.{block_in, slots_end};
 ghost use Rattle.dd_layout.specs.Layout.{disk_need};
 ghost use Rattle.dd_record.specs.Table.{is_link};
 ghost use Rattle.dd_model.specs.State.{State, content};
-ghost use Rattle.dd_store.specs.Meaning.{Stands};
+ghost use Rattle.dd_store.specs.Meaning.{Basis, Stands};
 ghost use Rattle.dd_store.specs.Keeping.{StoreView, IsStore, Holds, Kept};
 ghost use Rattle.dd_store.specs.Laying.{MayLay, MayLayRow, laid_store, marked_store, IsPlacedRow};
 ghost use Rattle.dd_store.specs.Saving.{AreSlotsOf};
@@ -33,12 +33,12 @@ pub fn lay_block<R: Rig>(
     requires address { address < geo.blocks }
     requires block { length from.now ≡ geo.block }
     requires disk { disk_need geo ≤ R.device_size rig.old Disk }
-    ensures crash { R.tells → (room : ℕ) (print : List ℕ → Fp) (store : StoreView) (s : State) → store.journal.geo ≡ geo → IsStore store → MayLay store address → Kept room print store (R.world rig.old) s s
-        → Elapses (R.clock rig.old) (R.clock rig.new) (λ o. Stands room print o.flash o.disk s) }
-    ensures kept { R.tells → (room : ℕ) (print : List ℕ → Fp) (store : StoreView) (s : State) → store.journal.geo ≡ geo → IsStore store → MayLay store address → Kept room print store (R.world rig.old) s s
-        → Kept room print store (R.world rig.new) s s }
-    ensures laid { R.tells → (room : ℕ) (print : List ℕ → Fp) (store : StoreView) (s : State) → store.journal.geo ≡ geo → IsStore store → MayLay store address → Kept room print store (R.world rig.old) s s
-        → from.now ≡ content s.array address → OnOk result (Kept room print (laid_store address store) (R.world rig.new) s s) }
+    ensures crash { R.tells → (basis : Basis) (print : List ℕ → Fp) (store : StoreView) (s : State) → store.journal.geo ≡ geo → IsStore store → MayLay store address → Kept basis print store (R.world rig.old) s s
+        → Elapses (R.clock rig.old) (R.clock rig.new) (λ o. Stands basis print o.flash o.disk s) }
+    ensures kept { R.tells → (basis : Basis) (print : List ℕ → Fp) (store : StoreView) (s : State) → store.journal.geo ≡ geo → IsStore store → MayLay store address → Kept basis print store (R.world rig.old) s s
+        → Kept basis print store (R.world rig.new) s s }
+    ensures laid { R.tells → (basis : Basis) (print : List ℕ → Fp) (store : StoreView) (s : State) → store.journal.geo ≡ geo → IsStore store → MayLay store address → Kept basis print store (R.world rig.old) s s
+        → from.now ≡ content s.array address → OnOk result (Kept basis print (laid_store address store) (R.world rig.new) s s) }
     ensures holds { R.tells → (print : List ℕ → Fp) (store : StoreView) (s : State) → store.journal.geo ≡ geo → IsStore store → MayLay store address → Holds print store (R.world rig.old) s
         → Holds print store (R.world rig.new) s }
     ensures holds_laid { R.tells → (print : List ℕ → Fp) (store : StoreView) (s : State) → store.journal.geo ≡ geo → IsStore store → MayLay store address → Holds print store (R.world rig.old) s
@@ -56,9 +56,9 @@ pub fn lay_block<R: Rig>(
 /// Syncs the disk. Behind an Ok the laid addresses may be marked clean.
 pub fn sync_laid<R: Rig>(rig: &mut R) -> Result<(), Failed>
     ensures time { R.tells → AddsNone (R.clock rig.old) (R.clock rig.new) }
-    ensures kept { R.tells → (room : ℕ) (print : List ℕ → Fp) (store : StoreView) (c s : State) → OnErr result (Kept room print store (R.world rig.old) c s → Kept room print store (R.world rig.new) c s) }
-    ensures marked { R.tells → (room : ℕ) (print : List ℕ → Fp) (store : StoreView) (s : State) → IsStore store → store.pending ≡ [] → Kept room print store (R.world rig.old) s s
-        → OnOk result (Kept room print (marked_store store) (R.world rig.new) s s) }
+    ensures kept { R.tells → (basis : Basis) (print : List ℕ → Fp) (store : StoreView) (c s : State) → OnErr result (Kept basis print store (R.world rig.old) c s → Kept basis print store (R.world rig.new) c s) }
+    ensures marked { R.tells → (basis : Basis) (print : List ℕ → Fp) (store : StoreView) (s : State) → IsStore store → store.pending ≡ [] → Kept basis print store (R.world rig.old) s s
+        → OnOk result (Kept basis print (marked_store store) (R.world rig.new) s s) }
     ensures holds { R.tells → (print : List ℕ → Fp) (store : StoreView) (s : State) → Holds print store (R.world rig.old) s → OnOk result (Holds print (marked_store store) (R.world rig.new) s) }
     ensures flash { R.tells → (R.world rig.new).flash ≡ (R.world rig.old).flash }
     ensures said { R.tells → (R.world rig.new).said ≡ (R.world rig.old).said }
@@ -84,12 +84,12 @@ pub fn lay_row<R: Rig>(
     requires block { length block.old ≡ geo.block }
     requires flash { slots_end slots.now ≤ R.device_size rig.old Flash }
     requires disk { disk_need geo ≤ R.device_size rig.old Disk }
-    ensures crash { R.tells → (room : ℕ) (print : List ℕ → Fp) (store : StoreView) (s : State) → store.journal.geo ≡ geo → IsStore store → MayLayRow store row → Kept room print store (R.world rig.old) s s
-        → Elapses (R.clock rig.old) (R.clock rig.new) (λ o. Stands room print o.flash o.disk s) }
-    ensures kept { R.tells → (room : ℕ) (print : List ℕ → Fp) (store : StoreView) (s : State) → store.journal.geo ≡ geo → IsStore store → MayLayRow store row → Kept room print store (R.world rig.old) s s
-        → Kept room print store (R.world rig.new) s s }
-    ensures laid { R.tells → (room : ℕ) (print : List ℕ → Fp) (store : StoreView) (s : State) → store.journal.geo ≡ geo → IsStore store → MayLayRow store row → Kept room print store (R.world rig.old) s s
-        → OnOk result (Kept room print (laid_store row.address store) (R.world rig.new) s s) }
+    ensures crash { R.tells → (basis : Basis) (print : List ℕ → Fp) (store : StoreView) (s : State) → store.journal.geo ≡ geo → IsStore store → MayLayRow store row → Kept basis print store (R.world rig.old) s s
+        → Elapses (R.clock rig.old) (R.clock rig.new) (λ o. Stands basis print o.flash o.disk s) }
+    ensures kept { R.tells → (basis : Basis) (print : List ℕ → Fp) (store : StoreView) (s : State) → store.journal.geo ≡ geo → IsStore store → MayLayRow store row → Kept basis print store (R.world rig.old) s s
+        → Kept basis print store (R.world rig.new) s s }
+    ensures laid { R.tells → (basis : Basis) (print : List ℕ → Fp) (store : StoreView) (s : State) → store.journal.geo ≡ geo → IsStore store → MayLayRow store row → Kept basis print store (R.world rig.old) s s
+        → OnOk result (Kept basis print (laid_store row.address store) (R.world rig.new) s s) }
     ensures holds { R.tells → (print : List ℕ → Fp) (store : StoreView) (s : State) → store.journal.geo ≡ geo → IsStore store → MayLayRow store row → Holds print store (R.world rig.old) s
         → Holds print store (R.world rig.new) s }
     ensures holds_laid { R.tells → (print : List ℕ → Fp) (store : StoreView) (s : State) → store.journal.geo ≡ geo → IsStore store → MayLayRow store row → Holds print store (R.world rig.old) s
@@ -131,12 +131,12 @@ fn lay_slot<R: Rig>(
     requires block { length block.old ≡ geo.block }
     requires flash { slots_end slots.now ≤ R.device_size rig.old Flash }
     requires disk { disk_need geo ≤ R.device_size rig.old Disk }
-    ensures crash { R.tells → (room : ℕ) (print : List ℕ → Fp) (store : StoreView) (s : State) → store.journal.geo ≡ geo → IsStore store → MayLay store address → Kept room print store (R.world rig.old) s s
-        → Elapses (R.clock rig.old) (R.clock rig.new) (λ o. Stands room print o.flash o.disk s) }
-    ensures kept { R.tells → (room : ℕ) (print : List ℕ → Fp) (store : StoreView) (s : State) → store.journal.geo ≡ geo → IsStore store → MayLay store address → Kept room print store (R.world rig.old) s s
-        → Kept room print store (R.world rig.new) s s }
-    ensures laid { R.tells → (room : ℕ) (print : List ℕ → Fp) (store : StoreView) (s : State) → store.journal.geo ≡ geo → IsStore store → MayLay store address → Kept room print store (R.world rig.old) s s
-        → block_in slots.now (R.world rig.old).flash.shown slot ≡ content s.array address → OnOk result (Kept room print (laid_store address store) (R.world rig.new) s s) }
+    ensures crash { R.tells → (basis : Basis) (print : List ℕ → Fp) (store : StoreView) (s : State) → store.journal.geo ≡ geo → IsStore store → MayLay store address → Kept basis print store (R.world rig.old) s s
+        → Elapses (R.clock rig.old) (R.clock rig.new) (λ o. Stands basis print o.flash o.disk s) }
+    ensures kept { R.tells → (basis : Basis) (print : List ℕ → Fp) (store : StoreView) (s : State) → store.journal.geo ≡ geo → IsStore store → MayLay store address → Kept basis print store (R.world rig.old) s s
+        → Kept basis print store (R.world rig.new) s s }
+    ensures laid { R.tells → (basis : Basis) (print : List ℕ → Fp) (store : StoreView) (s : State) → store.journal.geo ≡ geo → IsStore store → MayLay store address → Kept basis print store (R.world rig.old) s s
+        → block_in slots.now (R.world rig.old).flash.shown slot ≡ content s.array address → OnOk result (Kept basis print (laid_store address store) (R.world rig.new) s s) }
     ensures holds { R.tells → (print : List ℕ → Fp) (store : StoreView) (s : State) → store.journal.geo ≡ geo → IsStore store → MayLay store address → Holds print store (R.world rig.old) s
         → Holds print store (R.world rig.new) s }
     ensures holds_laid { R.tells → (print : List ℕ → Fp) (store : StoreView) (s : State) → store.journal.geo ≡ geo → IsStore store → MayLay store address → Holds print store (R.world rig.old) s

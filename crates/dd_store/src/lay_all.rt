@@ -9,7 +9,7 @@ ghost use Rattle.dd_slots.specs.Slots.{slots_end};
 ghost use Rattle.dd_layout.specs.Layout.{disk_need};
 ghost use Rattle.dd_record.specs.Table.{is_dirty_at};
 ghost use Rattle.dd_model.specs.State.{State};
-ghost use Rattle.dd_store.specs.Meaning.{Stands};
+ghost use Rattle.dd_store.specs.Meaning.{Basis, Stands};
 ghost use Rattle.dd_store.specs.Keeping.{StoreView, IsStore, Holds, Kept};
 ghost use Rattle.dd_store.specs.Laying.{MayLay, MayLayAll, laid_store, all_laid, IsPlacedRow};
 ghost use Rattle.dd_store.specs.Saving.{AreSlotsOf};
@@ -37,12 +37,12 @@ fn lay_address<R: Rig, L: Lists>(
     requires block { length block.old ≡ geo.block }
     requires flash { slots_end slots.now ≤ R.device_size rig.old Flash }
     requires disk { disk_need geo ≤ R.device_size rig.old Disk }
-    ensures crash { R.tells → (room : ℕ) (print : List ℕ → Fp) (store : StoreView) (s : State) → store.journal.geo ≡ geo → store.table ≡ (L.listing lists.now).table → IsStore store → MayLay store address
-        → Kept room print store (R.world rig.old) s s → Elapses (R.clock rig.old) (R.clock rig.new) (λ o. Stands room print o.flash o.disk s) }
-    ensures kept { R.tells → (room : ℕ) (print : List ℕ → Fp) (store : StoreView) (s : State) → store.journal.geo ≡ geo → store.table ≡ (L.listing lists.now).table → IsStore store → MayLay store address
-        → Kept room print store (R.world rig.old) s s → Kept room print store (R.world rig.new) s s }
-    ensures laid { R.tells → (room : ℕ) (print : List ℕ → Fp) (store : StoreView) (s : State) → store.journal.geo ≡ geo → store.table ≡ (L.listing lists.now).table → IsStore store → MayLay store address
-        → Kept room print store (R.world rig.old) s s → OnOk result (Kept room print (laid_store address store) (R.world rig.new) s s) }
+    ensures crash { R.tells → (basis : Basis) (print : List ℕ → Fp) (store : StoreView) (s : State) → store.journal.geo ≡ geo → store.table ≡ (L.listing lists.now).table → IsStore store → MayLay store address
+        → Kept basis print store (R.world rig.old) s s → Elapses (R.clock rig.old) (R.clock rig.new) (λ o. Stands basis print o.flash o.disk s) }
+    ensures kept { R.tells → (basis : Basis) (print : List ℕ → Fp) (store : StoreView) (s : State) → store.journal.geo ≡ geo → store.table ≡ (L.listing lists.now).table → IsStore store → MayLay store address
+        → Kept basis print store (R.world rig.old) s s → Kept basis print store (R.world rig.new) s s }
+    ensures laid { R.tells → (basis : Basis) (print : List ℕ → Fp) (store : StoreView) (s : State) → store.journal.geo ≡ geo → store.table ≡ (L.listing lists.now).table → IsStore store → MayLay store address
+        → Kept basis print store (R.world rig.old) s s → OnOk result (Kept basis print (laid_store address store) (R.world rig.new) s s) }
     ensures holds { R.tells → (print : List ℕ → Fp) (store : StoreView) (s : State) → store.journal.geo ≡ geo → store.table ≡ (L.listing lists.now).table → IsStore store → MayLay store address
         → Holds print store (R.world rig.old) s → Holds print store (R.world rig.new) s }
     ensures holds_laid { R.tells → (print : List ℕ → Fp) (store : StoreView) (s : State) → store.journal.geo ≡ geo → store.table ≡ (L.listing lists.now).table → IsStore store → MayLay store address
@@ -77,12 +77,12 @@ pub(crate) fn lay_all<R: Rig, L: Lists>(
     requires block { length block.old ≡ geo.block }
     requires flash { slots_end slots.now ≤ R.device_size rig.old Flash }
     requires disk { disk_need geo ≤ R.device_size rig.old Disk }
-    ensures crash { R.tells → (room : ℕ) (print : List ℕ → Fp) (store : StoreView) (s : State) → store.journal.geo ≡ geo → store.table ≡ (L.listing lists.now).table → IsStore store → MayLayAll store addresses.now
-        → Kept room print store (R.world rig.old) s s → Elapses (R.clock rig.old) (R.clock rig.new) (λ o. Stands room print o.flash o.disk s) }
-    ensures kept { R.tells → (room : ℕ) (print : List ℕ → Fp) (store : StoreView) (s : State) → store.journal.geo ≡ geo → store.table ≡ (L.listing lists.now).table → IsStore store → MayLayAll store addresses.now
-        → Kept room print store (R.world rig.old) s s → Kept room print store (R.world rig.new) s s }
-    ensures laid { R.tells → (room : ℕ) (print : List ℕ → Fp) (store : StoreView) (s : State) → store.journal.geo ≡ geo → store.table ≡ (L.listing lists.now).table → IsStore store → MayLayAll store addresses.now
-        → Kept room print store (R.world rig.old) s s → OnOk result (Kept room print (all_laid addresses.now store) (R.world rig.new) s s) }
+    ensures crash { R.tells → (basis : Basis) (print : List ℕ → Fp) (store : StoreView) (s : State) → store.journal.geo ≡ geo → store.table ≡ (L.listing lists.now).table → IsStore store → MayLayAll store addresses.now
+        → Kept basis print store (R.world rig.old) s s → Elapses (R.clock rig.old) (R.clock rig.new) (λ o. Stands basis print o.flash o.disk s) }
+    ensures kept { R.tells → (basis : Basis) (print : List ℕ → Fp) (store : StoreView) (s : State) → store.journal.geo ≡ geo → store.table ≡ (L.listing lists.now).table → IsStore store → MayLayAll store addresses.now
+        → Kept basis print store (R.world rig.old) s s → Kept basis print store (R.world rig.new) s s }
+    ensures laid { R.tells → (basis : Basis) (print : List ℕ → Fp) (store : StoreView) (s : State) → store.journal.geo ≡ geo → store.table ≡ (L.listing lists.now).table → IsStore store → MayLayAll store addresses.now
+        → Kept basis print store (R.world rig.old) s s → OnOk result (Kept basis print (all_laid addresses.now store) (R.world rig.new) s s) }
     ensures holds { R.tells → (print : List ℕ → Fp) (store : StoreView) (s : State) → store.journal.geo ≡ geo → store.table ≡ (L.listing lists.now).table → IsStore store → MayLayAll store addresses.now
         → Holds print store (R.world rig.old) s → Holds print store (R.world rig.new) s }
     ensures holds_laid { R.tells → (print : List ℕ → Fp) (store : StoreView) (s : State) → store.journal.geo ≡ geo → store.table ≡ (L.listing lists.now).table → IsStore store → MayLayAll store addresses.now

@@ -7,7 +7,7 @@ ghost use Rattle.dd_rig.specs.Clock.{Elapses};
 ghost use Rattle.dd_rig.specs.Counts.{Frame, Makes, up_to, nothing, Rose};
 ghost use Rattle.dd_slots.specs.Slots.{Takes, slots_end, block_in};
 ghost use Rattle.dd_model.specs.State.{State};
-ghost use Rattle.dd_store.specs.Meaning.{Stands};
+ghost use Rattle.dd_store.specs.Meaning.{Basis, Stands};
 ghost use Rattle.dd_store.specs.Keeping.{StoreView, IsStore, Holds, Kept};
 ghost use Rattle.dd_store.specs.Saving.{AreSlotsOf, HasSlots};
 
@@ -27,10 +27,10 @@ pub fn place_block<R: Rig>(
     ensures placed { (geo : Geometry) → AreSlotsOf geo slots.old → AreSlotsOf geo slots.new }
     ensures none { result ≡ Ok None → rig.new ≡ rig.old }
     ensures shows { R.tells → IfOk result (λ found. IfSome found (λ slot. block_in slots.old (R.world rig.new).flash.shown slot ≡ block.now)) }
-    ensures crash { R.tells → (room : ℕ) (print : List ℕ → Fp) (store : StoreView) (c s : State) → HasSlots store slots.old → IsStore store → Kept room print store (R.world rig.old) c s
-        → Elapses (R.clock rig.old) (R.clock rig.new) (λ o. Stands room print o.flash o.disk c) }
-    ensures kept { R.tells → (room : ℕ) (print : List ℕ → Fp) (store : StoreView) (c s : State) → HasSlots store slots.old → IsStore store → Kept room print store (R.world rig.old) c s
-        → Kept room print store (R.world rig.new) c s }
+    ensures crash { R.tells → (basis : Basis) (print : List ℕ → Fp) (store : StoreView) (c s : State) → HasSlots store slots.old → IsStore store → Kept basis print store (R.world rig.old) c s
+        → Elapses (R.clock rig.old) (R.clock rig.new) (λ o. Stands basis print o.flash o.disk c) }
+    ensures kept { R.tells → (basis : Basis) (print : List ℕ → Fp) (store : StoreView) (c s : State) → HasSlots store slots.old → IsStore store → Kept basis print store (R.world rig.old) c s
+        → Kept basis print store (R.world rig.new) c s }
     ensures holds { R.tells → (print : List ℕ → Fp) (store : StoreView) (s : State) → HasSlots store slots.old → IsStore store → Holds print store (R.world rig.old) s
         → Holds print store (R.world rig.new) s }
     ensures unsaid { R.tells → Elapses (R.clock rig.old) (R.clock rig.new) (λ o. o.out ≡ (R.world rig.old).said) }

@@ -6,7 +6,7 @@ ghost use Rattle.dd_model.specs.State.{State};
 ghost use Rattle.dd_layout.specs.Layout.{flash_need, disk_need};
 ghost use Rattle.dd_journal.specs.Regions.{AreRows};
 ghost use Rattle.dd_journal.specs.Sitting.{Sits, IsStable};
-ghost use Rattle.dd_store.specs.Meaning.{Means, KeepsPace};
+ghost use Rattle.dd_store.specs.Meaning.{HasBehind, Basis, Means, KeepsPace};
 ghost use Rattle.dd_store.specs.declared.fault.StoreFault.TheVariants.{FlashRead, DiskRead, FlashWrite, DiskWrite};
 ghost use Rattle.dd_store.specs.Keeping.{IsStore, Holds, Kept, slots_shown};
 ghost use Rattle.dd_store.specs.Committing.{committed_store};
@@ -98,10 +98,11 @@ impl<F: Fingerprint, L: Lists> Store<F, L> {
         ensures print { IfOk result (λ new. new.print ≡ print) }
         ensures store { IfOk result (λ new. new.store ≡ store_of true journal (L.listing lists) count [] new.store.uses []) }
         ensures uses { IfOk result (λ new. AreUsesOf geo (L.listing lists).table.b new.store.uses) }
-        ensures kept { R.tells → IfOk result (λ new. (room : ℕ) (s : State) → IsStable (R.world rig.now).flash → IsStable (R.world rig.now).disk → disk_need geo ≤ R.device_size rig.now Disk
-            → Sits journal (R.world rig.now) (L.listing lists).table → KeepsPace room journal.epoch (L.listing lists).table.a count
+        ensures kept { R.tells → IfOk result (λ new. (basis : Basis) (s : State) → IsStable (R.world rig.now).flash → IsStable (R.world rig.now).disk → disk_need geo ≤ R.device_size rig.now Disk
+            → Sits journal (R.world rig.now) (L.listing lists).table → KeepsPace basis.room journal.epoch (L.listing lists).table.a count
+            → HasBehind basis geo (R.world rig.now).flash.shown (R.world rig.now).disk.shown
             → Means (F.printed print) geo (R.world rig.now).flash.shown (R.world rig.now).disk.shown (L.listing lists).table count s
-            → Kept room (F.printed print) new.store (R.world rig.now) s s) }
+            → Kept basis (F.printed print) new.store (R.world rig.now) s s) }
     {
         let used = used_slots(alloc, &lists, geo.slots())?;
         let slots = Slots::new(
@@ -130,10 +131,10 @@ impl<F: Fingerprint, L: Lists> Store<F, L> {
         requires up { IsTrue self.old.store.is_up }
         requires epoch { self.old.store.journal.epoch < 2 ^ 64 - 1 }
         requires flash { flash_need self.old.store.journal.geo ≤ R.device_size rig.old Flash }
-        ensures serves { R.tells → (room : ℕ) (c s : State) → Kept room (F.printed self.old.print) self.old.store (R.world rig.old) c s
-            → Serves room (F.printed self.old.print) result (R.clock rig.old) (R.clock rig.new) self.new.store (R.world rig.new) c s s }
-        ensures committed { R.tells → (room : ℕ) (c s : State) → Kept room (F.printed self.old.print) self.old.store (R.world rig.old) c s
-            → OnOk result (Kept room (F.printed self.old.print) self.new.store (R.world rig.new) s s) }
+        ensures serves { R.tells → (basis : Basis) (c s : State) → Kept basis (F.printed self.old.print) self.old.store (R.world rig.old) c s
+            → Serves basis (F.printed self.old.print) result (R.clock rig.old) (R.clock rig.new) self.new.store (R.world rig.new) c s s }
+        ensures committed { R.tells → (basis : Basis) (c s : State) → Kept basis (F.printed self.old.print) self.old.store (R.world rig.old) c s
+            → OnOk result (Kept basis (F.printed self.old.print) self.new.store (R.world rig.new) s s) }
         ensures holds { R.tells → (s : State) → Holds (F.printed self.old.print) self.old.store (R.world rig.old) s
             → HoldsThen (F.printed self.old.print) result s s self.new.store (R.world rig.new) }
         ensures silent { R.tells → IsSilent (R.clock rig.old) (R.clock rig.new) (R.world rig.old) (R.world rig.new) }
@@ -173,10 +174,10 @@ impl<F: Fingerprint, L: Lists> Store<F, L> {
     /// `FlashWrite` comes only where a write or a sync of the flash failed. The store is down then.
     pub fn flush<R: Rig>(&mut self, rig: &mut R) -> Result<u64, StoreFault>
         requires { MayCall self.old.store (R.device_size rig.old) }
-        ensures serves { R.tells → (room : ℕ) (c s : State) → Kept room (F.printed self.old.print) self.old.store (R.world rig.old) c s
-            → Serves room (F.printed self.old.print) result (R.clock rig.old) (R.clock rig.new) self.new.store (R.world rig.new) c s s }
-        ensures committed { R.tells → (room : ℕ) (c s : State) → Kept room (F.printed self.old.print) self.old.store (R.world rig.old) c s
-            → OnOk result (Kept room (F.printed self.old.print) self.new.store (R.world rig.new) s s) }
+        ensures serves { R.tells → (basis : Basis) (c s : State) → Kept basis (F.printed self.old.print) self.old.store (R.world rig.old) c s
+            → Serves basis (F.printed self.old.print) result (R.clock rig.old) (R.clock rig.new) self.new.store (R.world rig.new) c s s }
+        ensures committed { R.tells → (basis : Basis) (c s : State) → Kept basis (F.printed self.old.print) self.old.store (R.world rig.old) c s
+            → OnOk result (Kept basis (F.printed self.old.print) self.new.store (R.world rig.new) s s) }
         ensures holds { R.tells → (s : State) → Holds (F.printed self.old.print) self.old.store (R.world rig.old) s
             → HoldsThen (F.printed self.old.print) result s s self.new.store (R.world rig.new) }
         ensures silent { R.tells → IsSilent (R.clock rig.old) (R.clock rig.new) (R.world rig.old) (R.world rig.new) }
@@ -201,8 +202,8 @@ impl<F: Fingerprint, L: Lists> Store<F, L> {
         requires call { IsReady self.old.store (R.device_size rig.old) }
         requires may { MayLay self.old.store address }
         requires few { length self.old.store.laid < self.old.store.journal.geo.group }
-        ensures serves { R.tells → (room : ℕ) (c s : State) → Kept room (F.printed self.old.print) self.old.store (R.world rig.old) c s
-            → Serves room (F.printed self.old.print) result (R.clock rig.old) (R.clock rig.new) self.new.store (R.world rig.new) c s s }
+        ensures serves { R.tells → (basis : Basis) (c s : State) → Kept basis (F.printed self.old.print) self.old.store (R.world rig.old) c s
+            → Serves basis (F.printed self.old.print) result (R.clock rig.old) (R.clock rig.new) self.new.store (R.world rig.new) c s s }
         ensures holds { R.tells → (s : State) → Holds (F.printed self.old.print) self.old.store (R.world rig.old) s
             → HoldsThen (F.printed self.old.print) result s s self.new.store (R.world rig.new) }
         ensures silent { R.tells → IsSilent (R.clock rig.old) (R.clock rig.new) (R.world rig.old) (R.world rig.new) }
@@ -240,8 +241,8 @@ impl<F: Fingerprint, L: Lists> Store<F, L> {
     pub fn mark<R: Rig>(&mut self, rig: &mut R) -> Result<(), StoreFault>
         requires call { IsReady self.old.store (R.device_size rig.old) }
         requires some { 0 < length self.old.store.laid }
-        ensures serves { R.tells → (room : ℕ) (c s : State) → Kept room (F.printed self.old.print) self.old.store (R.world rig.old) c s
-            → Serves room (F.printed self.old.print) result (R.clock rig.old) (R.clock rig.new) self.new.store (R.world rig.new) c s s }
+        ensures serves { R.tells → (basis : Basis) (c s : State) → Kept basis (F.printed self.old.print) self.old.store (R.world rig.old) c s
+            → Serves basis (F.printed self.old.print) result (R.clock rig.old) (R.clock rig.new) self.new.store (R.world rig.new) c s s }
         ensures holds { R.tells → (s : State) → Holds (F.printed self.old.print) self.old.store (R.world rig.old) s
             → HoldsThen (F.printed self.old.print) result s s self.new.store (R.world rig.new) }
         ensures silent { R.tells → IsSilent (R.clock rig.old) (R.clock rig.new) (R.world rig.old) (R.world rig.new) }

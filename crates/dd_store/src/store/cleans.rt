@@ -7,6 +7,7 @@ ghost use Rattle.dd_store.specs.Keeping.{Holds, Kept};
 ghost use Rattle.dd_store.specs.Rounds.{LoadsAtMost};
 ghost use Rattle.dd_store.specs.Serving.{MayCall, Serves, HoldsThen};
 ghost use Rattle.dd_store.specs.Calls.{IsSilent, Rests, FailsBy, IsNoFetch, CleansBy, CostsOfFlush};
+ghost use Rattle.dd_store.specs.Meaning.{Basis};
 
 use super::Store;
 use crate::StoreFault;
@@ -24,10 +25,10 @@ impl<F: Fingerprint, L: Lists> Store<F, L> {
     /// it is down.
     pub fn clean<R: Rig>(&mut self, rig: &mut R) -> Result<(), StoreFault>
         requires { MayCall self.old.store (R.device_size rig.old) }
-        ensures serves { R.tells → (room : ℕ) (c s : State) → Kept room (F.printed self.old.print) self.old.store (R.world rig.old) c s
-            → Serves room (F.printed self.old.print) result (R.clock rig.old) (R.clock rig.new) self.new.store (R.world rig.new) c s s }
-        ensures committed { R.tells → (room : ℕ) (c s : State) → Kept room (F.printed self.old.print) self.old.store (R.world rig.old) c s
-            → OnOk result (Kept room (F.printed self.old.print) self.new.store (R.world rig.new) s s) }
+        ensures serves { R.tells → (basis : Basis) (c s : State) → Kept basis (F.printed self.old.print) self.old.store (R.world rig.old) c s
+            → Serves basis (F.printed self.old.print) result (R.clock rig.old) (R.clock rig.new) self.new.store (R.world rig.new) c s s }
+        ensures committed { R.tells → (basis : Basis) (c s : State) → Kept basis (F.printed self.old.print) self.old.store (R.world rig.old) c s
+            → OnOk result (Kept basis (F.printed self.old.print) self.new.store (R.world rig.new) s s) }
         ensures shows { R.tells → (s : State) → Holds (F.printed self.old.print) self.old.store (R.world rig.old) s
             → OnOk result ((address : ℕ) → address < self.old.store.journal.geo.blocks → disk_block self.old.store.journal.geo (R.world rig.new).disk.shown address ≡ content s.array address) }
         ensures holds { R.tells → (s : State) → Holds (F.printed self.old.print) self.old.store (R.world rig.old) s

@@ -11,7 +11,7 @@ ghost use Rattle.dd_model.specs.Listing.{IsListing};
 ghost use Rattle.dd_model.specs.Reference.{reference, read_answer, Tells};
 ghost use Rattle.dd_model.specs.State.{State, content};
 ghost use Rattle.dd_store.specs.declared.fault.StoreFault.TheVariants.{FlashRead, DiskRead};
-ghost use Rattle.dd_store.specs.Meaning.{sizes_of};
+ghost use Rattle.dd_store.specs.Meaning.{Basis, sizes_of};
 ghost use Rattle.dd_store.specs.Keeping.{IsStore, Holds, Kept};
 ghost use Rattle.dd_store.specs.Referring.{listing_in};
 ghost use Rattle.dd_store.specs.Serving.{MayCall, Serves, HoldsThen, unlaid};
@@ -42,8 +42,8 @@ impl<F: Fingerprint, L: Lists> Store<F, L> {
         requires call { MayCall self.old.store (R.device_size rig.old) }
         requires below { address < self.old.store.journal.geo.blocks }
         requires long { length into.old ≡ self.old.store.journal.geo.block }
-        ensures serves { R.tells → (room : ℕ) (c s : State) → Kept room (F.printed self.old.print) self.old.store (R.world rig.old) c s
-            → Serves room (F.printed self.old.print) result (R.clock rig.old) (R.clock rig.new) self.new.store (R.world rig.new) c s
+        ensures serves { R.tells → (basis : Basis) (c s : State) → Kept basis (F.printed self.old.print) self.old.store (R.world rig.old) c s
+            → Serves basis (F.printed self.old.print) result (R.clock rig.old) (R.clock rig.new) self.new.store (R.world rig.new) c s
             (reference (sizes_of self.old.store.journal.geo) s address (content s.array address)) }
         ensures tells { R.tells → (s : State) → Holds (F.printed self.old.print) self.old.store (R.world rig.old) s
             → IfOk result (λ done. (into.new ≡ content s.array address) × Tells (F.printed self.old.print) done (read_answer (sizes_of self.old.store.journal.geo) s address)) }

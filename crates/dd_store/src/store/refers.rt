@@ -13,7 +13,7 @@ ghost use Rattle.dd_model.specs.Listing.{IsGiven, want_of, touch_by, cut_of};
 ghost use Rattle.dd_model.specs.Reference.{reference, Tells};
 ghost use Rattle.dd_model.specs.State.{State, content, is_zero_block, is_known};
 ghost use Rattle.dd_store.specs.declared.fault.StoreFault.TheVariants.{FlashWrite};
-ghost use Rattle.dd_store.specs.Meaning.{sizes_of};
+ghost use Rattle.dd_store.specs.Meaning.{Basis, sizes_of};
 ghost use Rattle.dd_store.specs.Keeping.{IsStore, Holds, Kept};
 ghost use Rattle.dd_store.specs.Referring.{RecordFits, referred_store, listing_in, is_fresh_block};
 ghost use Rattle.dd_store.specs.Bringing.{IsPrepared, Enters, answer_for};
@@ -76,9 +76,9 @@ impl<F: Fingerprint, L: Lists> Store<F, L> {
         requires long { length block.now ≡ self.old.store.journal.geo.block }
         requires anew { (dirty ≡ true) ⊎ (link_at address self.old.store.table.a ≡ Lost) }
         requires prepared { IsPrepared address FreshBlock self.old.store }
-        ensures serves { R.tells → (room : ℕ) (c s : State) → Kept room (F.printed self.old.print) self.old.store (R.world rig.old) c s → fp ≡ F.printed self.old.print block.now
+        ensures serves { R.tells → (basis : Basis) (c s : State) → Kept basis (F.printed self.old.print) self.old.store (R.world rig.old) c s → fp ≡ F.printed self.old.print block.now
             → is_zero_block block.now ≡ false → is_known block.now s.blocks ≡ false → (dirty ≡ false → block.now ≡ content s.array address)
-            → Serves room (F.printed self.old.print) result (R.clock rig.old) (R.clock rig.new) self.new.store (R.world rig.new) c s (reference (sizes_of self.old.store.journal.geo) s address block.now) }
+            → Serves basis (F.printed self.old.print) result (R.clock rig.old) (R.clock rig.new) self.new.store (R.world rig.new) c s (reference (sizes_of self.old.store.journal.geo) s address block.now) }
         ensures tells { R.tells → (s : State) → Holds (F.printed self.old.print) self.old.store (R.world rig.old) s → fp ≡ F.printed self.old.print block.now
             → is_zero_block block.now ≡ false → is_known block.now s.blocks ≡ false → (dirty ≡ false → block.now ≡ content s.array address)
             → IfOk result (λ cut. Tells (F.printed self.old.print) (record { kind = if dirty then New else Miss; cut = cut }) (answer_for dirty (sizes_of self.old.store.journal.geo) s address block.now)) }

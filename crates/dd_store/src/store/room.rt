@@ -7,6 +7,7 @@ ghost use Rattle.dd_store.specs.Keeping.{Holds, Kept, slots_shown};
 ghost use Rattle.dd_store.specs.Rounds.{Cleans, LoadsAtMost, HasRoom};
 ghost use Rattle.dd_store.specs.Serving.{unlaid, IsReady, MayCall, Serves, HoldsThen};
 ghost use Rattle.dd_store.specs.Calls.{IsSilent, Rests, FailsBy, IsNoFetch};
+ghost use Rattle.dd_store.specs.Meaning.{Basis};
 
 use super::Store;
 use crate::StoreFault;
@@ -24,8 +25,8 @@ impl<F: Fingerprint, L: Lists> Store<F, L> {
         want: Want,
     ) -> Result<(), StoreFault>
         requires { MayCall self.old.store (R.device_size rig.old) }
-        ensures serves { R.tells → (room : ℕ) (c s : State) → Kept room (F.printed self.old.print) self.old.store (R.world rig.old) c s
-            → Serves room (F.printed self.old.print) result (R.clock rig.old) (R.clock rig.new) self.new.store (R.world rig.new) c s s }
+        ensures serves { R.tells → (basis : Basis) (c s : State) → Kept basis (F.printed self.old.print) self.old.store (R.world rig.old) c s
+            → Serves basis (F.printed self.old.print) result (R.clock rig.old) (R.clock rig.new) self.new.store (R.world rig.new) c s s }
         ensures holds { R.tells → (s : State) → Holds (F.printed self.old.print) self.old.store (R.world rig.old) s
             → HoldsThen (F.printed self.old.print) result s s self.new.store (R.world rig.new) }
         ensures silent { R.tells → IsSilent (R.clock rig.old) (R.clock rig.new) (R.world rig.old) (R.world rig.new) }
@@ -63,8 +64,8 @@ impl<F: Fingerprint, L: Lists> Store<F, L> {
     fn clean_out<R: Rig>(&mut self, rig: &mut R, out: Option<u32>) -> Result<(), StoreFault>
         requires call { IsReady self.old.store (R.device_size rig.old) }
         requires epoch { self.old.store.journal.epoch + length self.old.store.dirty < 2 ^ 64 - 1 }
-        ensures serves { R.tells → (room : ℕ) (c s : State) → Kept room (F.printed self.old.print) self.old.store (R.world rig.old) c s
-            → Serves room (F.printed self.old.print) result (R.clock rig.old) (R.clock rig.new) self.new.store (R.world rig.new) c s s }
+        ensures serves { R.tells → (basis : Basis) (c s : State) → Kept basis (F.printed self.old.print) self.old.store (R.world rig.old) c s
+            → Serves basis (F.printed self.old.print) result (R.clock rig.old) (R.clock rig.new) self.new.store (R.world rig.new) c s s }
         ensures holds { R.tells → (s : State) → Holds (F.printed self.old.print) self.old.store (R.world rig.old) s
             → HoldsThen (F.printed self.old.print) result s s self.new.store (R.world rig.new) }
         ensures silent { R.tells → IsSilent (R.clock rig.old) (R.clock rig.new) (R.world rig.old) (R.world rig.new) }
@@ -95,8 +96,8 @@ impl<F: Fingerprint, L: Lists> Store<F, L> {
     fn clean_one<R: Rig>(&mut self, rig: &mut R, address: u32) -> Result<(), StoreFault>
         requires call { IsReady self.old.store (R.device_size rig.old) }
         requires epoch { self.old.store.journal.epoch + length self.old.store.dirty < 2 ^ 64 - 1 }
-        ensures serves { R.tells → (room : ℕ) (c s : State) → Kept room (F.printed self.old.print) self.old.store (R.world rig.old) c s
-            → Serves room (F.printed self.old.print) result (R.clock rig.old) (R.clock rig.new) self.new.store (R.world rig.new) c s s }
+        ensures serves { R.tells → (basis : Basis) (c s : State) → Kept basis (F.printed self.old.print) self.old.store (R.world rig.old) c s
+            → Serves basis (F.printed self.old.print) result (R.clock rig.old) (R.clock rig.new) self.new.store (R.world rig.new) c s s }
         ensures holds { R.tells → (s : State) → Holds (F.printed self.old.print) self.old.store (R.world rig.old) s
             → HoldsThen (F.printed self.old.print) result s s self.new.store (R.world rig.new) }
         ensures silent { R.tells → IsSilent (R.clock rig.old) (R.clock rig.new) (R.world rig.old) (R.world rig.new) }

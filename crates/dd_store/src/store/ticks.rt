@@ -10,6 +10,7 @@ ghost use Rattle.dd_store.specs.Committing.{committed_store};
 ghost use Rattle.dd_store.specs.Rounds.{Cleans, LoadsAtMost};
 ghost use Rattle.dd_store.specs.Serving.{written_back, unlaid, IsReady, MayCall, Serves, HoldsThen, GrowsLittle};
 ghost use Rattle.dd_store.specs.Calls.{IsSilent, Rests, FailsBy, IsNoFetch, CleansBy, TakesOldest};
+ghost use Rattle.dd_store.specs.Meaning.{Basis};
 
 use super::Store;
 use crate::StoreFault;
@@ -23,8 +24,8 @@ impl<F: Fingerprint, L: Lists> Store<F, L> {
     /// `FlashWrite` and `DiskWrite` it is down.
     pub fn tick<R: Rig>(&mut self, rig: &mut R) -> Result<Option<u32>, StoreFault>
         requires { MayCall self.old.store (R.device_size rig.old) }
-        ensures serves { R.tells → (room : ℕ) (c s : State) → Kept room (F.printed self.old.print) self.old.store (R.world rig.old) c s
-            → Serves room (F.printed self.old.print) result (R.clock rig.old) (R.clock rig.new) self.new.store (R.world rig.new) c s s }
+        ensures serves { R.tells → (basis : Basis) (c s : State) → Kept basis (F.printed self.old.print) self.old.store (R.world rig.old) c s
+            → Serves basis (F.printed self.old.print) result (R.clock rig.old) (R.clock rig.new) self.new.store (R.world rig.new) c s s }
         ensures shows { R.tells → (s : State) → Holds (F.printed self.old.print) self.old.store (R.world rig.old) s
             → IfOk result (λ done. IfSome done (λ address. disk_block self.old.store.journal.geo (R.world rig.new).disk.shown address ≡ content s.array address)) }
         ensures holds { R.tells → (s : State) → Holds (F.printed self.old.print) self.old.store (R.world rig.old) s
@@ -58,8 +59,8 @@ impl<F: Fingerprint, L: Lists> Store<F, L> {
         requires epoch { self.old.store.journal.epoch < 2 ^ 64 - 1 }
         requires below { address < self.old.store.journal.geo.blocks }
         requires dirty { is_dirty_at address self.old.store.table.a ≡ true }
-        ensures serves { R.tells → (room : ℕ) (c s : State) → Kept room (F.printed self.old.print) self.old.store (R.world rig.old) c s
-            → Serves room (F.printed self.old.print) result (R.clock rig.old) (R.clock rig.new) self.new.store (R.world rig.new) c s s }
+        ensures serves { R.tells → (basis : Basis) (c s : State) → Kept basis (F.printed self.old.print) self.old.store (R.world rig.old) c s
+            → Serves basis (F.printed self.old.print) result (R.clock rig.old) (R.clock rig.new) self.new.store (R.world rig.new) c s s }
         ensures holds { R.tells → (s : State) → Holds (F.printed self.old.print) self.old.store (R.world rig.old) s
             → HoldsThen (F.printed self.old.print) result s s self.new.store (R.world rig.new) }
         ensures silent { R.tells → IsSilent (R.clock rig.old) (R.clock rig.new) (R.world rig.old) (R.world rig.new) }

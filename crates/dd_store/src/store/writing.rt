@@ -4,7 +4,7 @@ ghost use Rattle.dd_rig.specs.Counts.{CalledAtMost, nothing};
 ghost use Rattle.dd_model.specs.Reference.{reference, write_answer, Tells};
 ghost use Rattle.dd_model.specs.State.{State};
 ghost use Rattle.dd_model.specs.declared.kind.Kind.TheVariants.{Dup};
-ghost use Rattle.dd_store.specs.Meaning.{sizes_of};
+ghost use Rattle.dd_store.specs.Meaning.{Basis, sizes_of};
 ghost use Rattle.dd_store.specs.Keeping.{Holds, Kept, slots_shown};
 ghost use Rattle.dd_store.specs.Rounds.{HasRoom};
 ghost use Rattle.dd_store.specs.Bringing.{want_by};
@@ -34,8 +34,8 @@ impl<F: Fingerprint, L: Lists> Store<F, L> {
         requires call { MayCall self.old.store (R.device_size rig.old) }
         requires below { address < self.old.store.journal.geo.blocks }
         requires long { length block.now ≡ self.old.store.journal.geo.block }
-        ensures serves { R.tells → (room : ℕ) (c s : State) → Kept room (F.printed self.old.print) self.old.store (R.world rig.old) c s
-            → Serves room (F.printed self.old.print) result (R.clock rig.old) (R.clock rig.new) self.new.store (R.world rig.new) c s
+        ensures serves { R.tells → (basis : Basis) (c s : State) → Kept basis (F.printed self.old.print) self.old.store (R.world rig.old) c s
+            → Serves basis (F.printed self.old.print) result (R.clock rig.old) (R.clock rig.new) self.new.store (R.world rig.new) c s
             (reference (sizes_of self.old.store.journal.geo) s address block.now) }
         ensures tells { R.tells → (s : State) → Holds (F.printed self.old.print) self.old.store (R.world rig.old) s
             → IfOk result (λ done. Tells (F.printed self.old.print) done (write_answer (sizes_of self.old.store.journal.geo) s address block.now)) }

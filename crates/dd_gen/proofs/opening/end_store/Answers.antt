@@ -10,29 +10,29 @@ use Rattle.dd_gen.proofs.Ended.{caused_amid, last_within, last_behind, last_tell
 use Rattle.dd_gen.proofs.opening.end_store.Goals as goal
 
 pub returns-clause-crash : goal.returns-clause-crash
-returns-clause-crash g c = λ t room start kept.
+returns-clause-crash g c = λ t basis start kept.
     let print : List ℕ → Fp = g.F.Fingerprint.printed c.args.store.print in
     let sizes : Sizes = sizes_of c.args.store.store.journal.geo in
-    goes_on (c.run_store-ending.ensures.crash t room start kept) (c.finish.ensures.within t)
-    (λ o h. last_within room print sizes start c.args.seed c.args.count (g.R.Rig.world c.args.rig.now).said c.run_store-ending.result (g.R.Rig.world c.run_store-ending.new.rig) (c.run_store-ending.ensures.ends t room start kept) o h)
+    goes_on (c.run_store-ending.ensures.crash t basis start kept) (c.finish.ensures.within t)
+    (λ o h. last_within basis print sizes start c.args.seed c.args.count (g.R.Rig.world c.args.rig.now).said c.run_store-ending.result (g.R.Rig.world c.run_store-ending.new.rig) (c.run_store-ending.ensures.ends t basis start kept) o h)
 
 pub returns-clause-left : goal.returns-clause-left
-returns-clause-left g c = λ t room start kept o may.
+returns-clause-left g c = λ t basis start kept o may.
     let print : List ℕ → Fp = g.F.Fingerprint.printed c.args.store.print in
     let sizes : Sizes = sizes_of c.args.store.store.journal.geo in
     let same = c.finish.ensures.devices t in
-    last_behind room print sizes start c.args.seed c.args.count (g.R.Rig.world c.args.rig.now).said c.run_store-ending.result (g.R.Rig.world c.run_store-ending.new.rig) (g.R.Rig.world c.finish.new.rig)
-    (g.R.Rig.counts c.run_store-ending.new.rig) (g.R.Rig.counts c.finish.new.rig) (c.run_store-ending.ensures.ends t room start kept) (c.finish.ensures.said t) same.0 same.1 o may
+    last_behind basis print sizes start c.args.seed c.args.count (g.R.Rig.world c.args.rig.now).said c.run_store-ending.result (g.R.Rig.world c.run_store-ending.new.rig) (g.R.Rig.world c.finish.new.rig)
+    (g.R.Rig.counts c.run_store-ending.new.rig) (g.R.Rig.counts c.finish.new.rig) (c.run_store-ending.ensures.ends t basis start kept) (c.finish.ensures.said t) same.0 same.1 o may
 
 pub returns-clause-tells : goal.returns-clause-tells
-returns-clause-tells g c = λ t room start kept.
+returns-clause-tells g c = λ t basis start kept.
     let print : List ℕ → Fp = g.F.Fingerprint.printed c.args.store.print in
     let sizes : Sizes = sizes_of c.args.store.store.journal.geo in
     record {
       ending = c.run_store-ending.result;
       status_is = c.finish.ensures.status;
-      tells = last_tells room print sizes start c.args.seed c.args.count c.run_store-ending.result (g.R.Rig.world c.args.rig.now) (g.R.Rig.world c.run_store-ending.new.rig) (g.R.Rig.world c.finish.new.rig)
-          (g.R.Rig.counts c.args.rig.now) (g.R.Rig.counts c.run_store-ending.new.rig) (g.R.Rig.counts c.finish.new.rig) c.run_store-ending.ensures.frame.0 (c.run_store-ending.ensures.ends t room start kept) (c.finish.ensures.said t);
+      tells = last_tells basis print sizes start c.args.seed c.args.count c.run_store-ending.result (g.R.Rig.world c.args.rig.now) (g.R.Rig.world c.run_store-ending.new.rig) (g.R.Rig.world c.finish.new.rig)
+          (g.R.Rig.counts c.args.rig.now) (g.R.Rig.counts c.run_store-ending.new.rig) (g.R.Rig.counts c.finish.new.rig) c.run_store-ending.ensures.frame.0 (c.run_store-ending.ensures.ends t basis start kept) (c.finish.ensures.said t);
     }
 
 pub returns-clause-caused : goal.returns-clause-caused

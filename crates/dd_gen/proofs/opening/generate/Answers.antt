@@ -13,8 +13,8 @@ use Rattle.dd_answers.specs.Opening.{ending_of}
 use Rattle.dd_answers.proofs.Ended.{Stops, stops, quiet_fault, refuses_first, unopened_within, unopened_behind, by_three, fault_asked, is_unserved, quiet_behind, refuses_so}
 use Rattle.dd_loop.proofs.Lastly.{ending_since, ending_later}
 use Rattle.dd_loop.proofs.More.{more_same}
-use Rattle.dd_answers.specs.Headline.{pace_from}
-use Rattle.dd_answers.proofs.Pacing.{paced}
+use Rattle.dd_recover.specs.Beginning.{basis_from}
+use Rattle.dd_answers.proofs.Pacing.{based}
 use Rattle.dd_gen.specs.Large.{LeavesGenerated, TellsSums}
 use Rattle.dd_gen.proofs.Ended.{caused_amid, opening_cause, quiet_cause, tells_since, unopened_tells}
 use Rattle.dd_gen.proofs.opening.generate.Goals as goal
@@ -24,7 +24,7 @@ returns-in-Err-clause-crash g c = λ t from.
     let print : List ℕ → Fp = g.F.Fingerprint.printed c.args.print in
     let old : World = g.R.Rig.world c.args.rig.now in
     let middle : World = g.R.Rig.world c.open_store.new.rig in
-    let s : Stops c.in-Err.fault = stops from.room c.args.print print from.stands.geo c.in-Err.fault middle from.start (c.in-Err.ensures.opens t from.room from.start from.stands from.young) in
+    let s : Stops c.in-Err.fault = stops from.basis c.args.print print from.stands.geo c.in-Err.fault middle from.start (c.in-Err.ensures.opens t from.basis from.start from.stands from.young) in
     let within : Elapses (g.R.Rig.clock c.open_store.new.rig) (g.R.Rig.clock c.finish.new.rig) (WithinLast (ending_line (ending_of c.in-Err.fault)) middle) =
     subst (λ (e : Ending). Elapses (g.R.Rig.clock c.open_store.new.rig) (g.R.Rig.clock c.finish.new.rig) (WithinLast (ending_line e) middle)) c.ending_of-ending.ensures (c.finish.ensures.within t) in
     goes_on (widens (c.open_store.ensures.time t) (λ o none. absurd none)) within
@@ -35,7 +35,7 @@ returns-in-Err-clause-left g c = λ t from o may.
     let print : List ℕ → Fp = g.F.Fingerprint.printed c.args.print in
     let old : World = g.R.Rig.world c.args.rig.now in
     let middle : World = g.R.Rig.world c.open_store.new.rig in
-    let s : Stops c.in-Err.fault = stops from.room c.args.print print from.stands.geo c.in-Err.fault middle from.start (c.in-Err.ensures.opens t from.room from.start from.stands from.young) in
+    let s : Stops c.in-Err.fault = stops from.basis c.args.print print from.stands.geo c.in-Err.fault middle from.start (c.in-Err.ensures.opens t from.basis from.start from.stands from.young) in
     let says : SaysLast (ending_line (ending_of c.in-Err.fault)) (g.R.Rig.counts c.open_store.new.rig) (g.R.Rig.counts c.finish.new.rig) middle (g.R.Rig.world c.finish.new.rig) =
     subst (λ (e : Ending). SaysLast (ending_line e) (g.R.Rig.counts c.open_store.new.rig) (g.R.Rig.counts c.finish.new.rig) middle (g.R.Rig.world c.finish.new.rig)) c.ending_of-ending.ensures (c.finish.ensures.said t) in
     inl (unopened_behind c.in-Err.fault s old middle (c.open_store.ensures.leaves t).said (c.open_store.ensures.leaves t).own (g.R.Rig.world c.finish.new.rig) (g.R.Rig.counts c.open_store.new.rig) (g.R.Rig.counts c.finish.new.rig)
@@ -47,7 +47,7 @@ returns-in-Err-clause-tells g c = λ t from.
     let old : World = g.R.Rig.world c.args.rig.now in
     let middle : World = g.R.Rig.world c.open_store.new.rig in
     let new : World = g.R.Rig.world c.finish.new.rig in
-    let s : Stops c.in-Err.fault = stops from.room c.args.print print from.stands.geo c.in-Err.fault middle from.start (c.in-Err.ensures.opens t from.room from.start from.stands from.young) in
+    let s : Stops c.in-Err.fault = stops from.basis c.args.print print from.stands.geo c.in-Err.fault middle from.start (c.in-Err.ensures.opens t from.basis from.start from.stands from.young) in
     let says : SaysLast (ending_line (ending_of c.in-Err.fault)) (g.R.Rig.counts c.open_store.new.rig) (g.R.Rig.counts c.finish.new.rig) middle new =
     subst (λ (e : Ending). SaysLast (ending_line e) (g.R.Rig.counts c.open_store.new.rig) (g.R.Rig.counts c.finish.new.rig) middle new) c.ending_of-ending.ensures (c.finish.ensures.said t) in
     record {
@@ -60,8 +60,8 @@ returns-in-Err-clause-tells g c = λ t from.
 pub returns-in-Err-clause-quiet : goal.returns-in-Err-clause-quiet
 returns-in-Err-clause-quiet g c = λ t from quiet.
     inr (c.finish.ensures.status ∙ ap status_of c.ending_of-ending.ensures
-    ∙ quiet_fault from.room c.args.print (g.F.Fingerprint.printed c.args.print) from.stands.geo c.in-Err.fault (g.R.Rig.world c.open_store.new.rig) from.start (g.R.Rig.counts c.args.rig.now) (g.R.Rig.counts c.open_store.new.rig) (g.R.Rig.counts c.finish.new.rig)
-    (c.in-Err.ensures.opens t from.room from.start from.stands from.young) c.in-Err.ensures.fails.0 c.finish.ensures.frame.0 quiet)
+    ∙ quiet_fault from.basis c.args.print (g.F.Fingerprint.printed c.args.print) from.stands.geo c.in-Err.fault (g.R.Rig.world c.open_store.new.rig) from.start (g.R.Rig.counts c.args.rig.now) (g.R.Rig.counts c.open_store.new.rig) (g.R.Rig.counts c.finish.new.rig)
+    (c.in-Err.ensures.opens t from.basis from.start from.stands from.young) c.in-Err.ensures.fails.0 c.finish.ensures.frame.0 quiet)
 
 pub returns-in-Err-clause-caused : goal.returns-in-Err-clause-caused
 returns-in-Err-clause-caused g c = (
@@ -87,34 +87,34 @@ returns-in-Err-clause-refused g c = λ t three.
 pub returns-in-Ok-clause-crash : goal.returns-in-Ok-clause-crash
 returns-in-Ok-clause-crash g c = λ t from.
     let old : World = g.R.Rig.world c.args.rig.now in
-    let kept = (c.in-Ok.ensures.holds t).kept (pace_from from) from.start (paced from) in
+    let kept = (c.in-Ok.ensures.holds t).kept (basis_from from) from.start (based from) in
     let printed = ap g.F.Fingerprint.printed c.in-Ok.ensures.opened.1 in
-    let call = c.end_store.ensures.crash t (pace_from from) from.start (subst (λ (p : List ℕ → Fp). Kept (pace_from from) p c.in-Ok.store.store (g.R.Rig.world c.open_store.new.rig) from.start from.start) (sym printed) kept.1) in
-    let served : Elapses (g.R.Rig.clock c.open_store.new.rig) (g.R.Rig.clock c.end_store.new.rig) (LeavesGenerated (pace_from from) (g.F.Fingerprint.printed c.args.print) (sizes_of from.stands.geo) from.start c.args.seed c.args.count old.said) =
-    by_three (λ (p : List ℕ → Fp) (geo : Geometry) (said : List ℕ). Elapses (g.R.Rig.clock c.open_store.new.rig) (g.R.Rig.clock c.end_store.new.rig) (LeavesGenerated (pace_from from) p (sizes_of geo) from.start c.args.seed c.args.count said))
+    let call = c.end_store.ensures.crash t (basis_from from) from.start (subst (λ (p : List ℕ → Fp). Kept (basis_from from) p c.in-Ok.store.store (g.R.Rig.world c.open_store.new.rig) from.start from.start) (sym printed) kept.1) in
+    let served : Elapses (g.R.Rig.clock c.open_store.new.rig) (g.R.Rig.clock c.end_store.new.rig) (LeavesGenerated (basis_from from) (g.F.Fingerprint.printed c.args.print) (sizes_of from.stands.geo) from.start c.args.seed c.args.count old.said) =
+    by_three (λ (p : List ℕ → Fp) (geo : Geometry) (said : List ℕ). Elapses (g.R.Rig.clock c.open_store.new.rig) (g.R.Rig.clock c.end_store.new.rig) (LeavesGenerated (basis_from from) p (sizes_of geo) from.start c.args.seed c.args.count said))
     printed kept.0 (c.open_store.ensures.leaves t).said call in
     goes_on (widens (c.open_store.ensures.time t) (λ o none. absurd none)) served (λ o h. inr h)
 
 pub returns-in-Ok-clause-left : goal.returns-in-Ok-clause-left
 returns-in-Ok-clause-left g c = λ t from o may.
-    let kept = (c.in-Ok.ensures.holds t).kept (pace_from from) from.start (paced from) in
+    let kept = (c.in-Ok.ensures.holds t).kept (basis_from from) from.start (based from) in
     let printed = ap g.F.Fingerprint.printed c.in-Ok.ensures.opened.1 in
-    inr (by_three (λ (p : List ℕ → Fp) (geo : Geometry) (said : List ℕ). LeavesGenerated (pace_from from) p (sizes_of geo) from.start c.args.seed c.args.count said o)
+    inr (by_three (λ (p : List ℕ → Fp) (geo : Geometry) (said : List ℕ). LeavesGenerated (basis_from from) p (sizes_of geo) from.start c.args.seed c.args.count said o)
     printed kept.0 (c.open_store.ensures.leaves t).said
-    (c.end_store.ensures.left t (pace_from from) from.start (subst (λ (p : List ℕ → Fp). Kept (pace_from from) p c.in-Ok.store.store (g.R.Rig.world c.open_store.new.rig) from.start from.start) (sym printed) kept.1) o may))
+    (c.end_store.ensures.left t (basis_from from) from.start (subst (λ (p : List ℕ → Fp). Kept (basis_from from) p c.in-Ok.store.store (g.R.Rig.world c.open_store.new.rig) from.start from.start) (sym printed) kept.1) o may))
 
 pub returns-in-Ok-clause-tells : goal.returns-in-Ok-clause-tells
 returns-in-Ok-clause-tells g c = λ t from.
     let old : World = g.R.Rig.world c.args.rig.now in
     let middle : World = g.R.Rig.world c.open_store.new.rig in
     let new : World = g.R.Rig.world c.end_store.new.rig in
-    let kept = (c.in-Ok.ensures.holds t).kept (pace_from from) from.start (paced from) in
+    let kept = (c.in-Ok.ensures.holds t).kept (basis_from from) from.start (based from) in
     let printed = ap g.F.Fingerprint.printed c.in-Ok.ensures.opened.1 in
     tells_since (g.F.Fingerprint.printed c.args.print) (sizes_of from.stands.geo) from.start c.args.seed c.args.count c.end_store.result old middle new (g.R.Rig.counts c.args.rig.now) (g.R.Rig.counts c.open_store.new.rig) (g.R.Rig.counts c.end_store.new.rig)
     c.open_store.ensures.fails.1.0 (c.open_store.ensures.leaves t).said
     (subst (λ (p : List ℕ → Fp). TellsSums p (sizes_of from.stands.geo) from.start c.args.seed c.args.count c.end_store.result (g.R.Rig.counts c.open_store.new.rig) (g.R.Rig.counts c.end_store.new.rig) middle new) printed
     (subst (λ (geo : Geometry). TellsSums (g.F.Fingerprint.printed c.in-Ok.store.print) (sizes_of geo) from.start c.args.seed c.args.count c.end_store.result (g.R.Rig.counts c.open_store.new.rig) (g.R.Rig.counts c.end_store.new.rig) middle new) kept.0
-    (c.end_store.ensures.tells t (pace_from from) from.start (subst (λ (p : List ℕ → Fp). Kept (pace_from from) p c.in-Ok.store.store middle from.start from.start) (sym printed) kept.1))))
+    (c.end_store.ensures.tells t (basis_from from) from.start (subst (λ (p : List ℕ → Fp). Kept (basis_from from) p c.in-Ok.store.store middle from.start from.start) (sym printed) kept.1))))
 
 pub returns-in-Ok-clause-quiet : goal.returns-in-Ok-clause-quiet
 returns-in-Ok-clause-quiet g c = λ t from quiet.

@@ -19,24 +19,24 @@ use Rattle.dd_gen.proofs.Ran.{all_within, drawn_next, holding_next, sums_more, w
 use Rattle.dd_gen.proofs.running.run_commands.Goals as goal
 
 pub returns-in-Err-clause-crash : goal.returns-in-Err-clause-crash
-returns-in-Err-clause-crash g c = λ t room start kept.
+returns-in-Err-clause-crash g c = λ t basis start kept.
     let print : List ℕ → Fp = g.F.Fingerprint.printed c.args.store.now.print in
     let sizes : Sizes = sizes_of c.args.store.now.store.journal.geo in
     let i = c.loop-n.invariant in
     let n : ℕ = c.loop-n._n in
     let old : World = g.R.Rig.world c.loop-n.rig in
     let printed : g.F.Fingerprint.printed c.loop-n.store.print ≡ print = ap g.F.Fingerprint.printed i.same.0 in
-    let h : Holding room print sizes start c.args.seed n c.loop-n.store.store old = i.holds t room start kept in
+    let h : Holding basis print sizes start c.args.seed n c.loop-n.store.store old = i.holds t basis start kept in
     let one : State = state_at print sizes start c.args.seed h.k in
     let s : State = state_at print sizes start c.args.seed n in
-    let call : Elapses (g.R.Rig.clock c.loop-n.rig) (g.R.Rig.clock c.run_one.new.rig) (WithinCall (StandsBy room print) one s old) =
-    subst (λ (p : List ℕ → Fp). Elapses (g.R.Rig.clock c.loop-n.rig) (g.R.Rig.clock c.run_one.new.rig) (WithinCall (StandsBy room p) one s old)) printed
-    (c.run_one.ensures.crash t room one s (subst (λ (p : List ℕ → Fp). Kept room p c.loop-n.store.store old one s) (sym printed) h.kept)) in
+    let call : Elapses (g.R.Rig.clock c.loop-n.rig) (g.R.Rig.clock c.run_one.new.rig) (WithinCall (StandsBy basis print) one s old) =
+    subst (λ (p : List ℕ → Fp). Elapses (g.R.Rig.clock c.loop-n.rig) (g.R.Rig.clock c.run_one.new.rig) (WithinCall (StandsBy basis p) one s old)) printed
+    (c.run_one.ensures.crash t basis one s (subst (λ (p : List ℕ → Fp). Kept basis p c.loop-n.store.store old one s) (sym printed) h.kept)) in
     let few : n ≤ c.args.count = omega (arith, c.loop-n-test.true) in
-    goes_on (i.crash t room start kept) call (λ o w. (within_either room print sizes start c.args.seed n c.args.count few c.loop-n.store.store old h o.flash o.disk w.0, w.1 ∙ i.said t))
+    goes_on (i.crash t basis start kept) call (λ o w. (within_either basis print sizes start c.args.seed n c.args.count few c.loop-n.store.store old h o.flash o.disk w.0, w.1 ∙ i.said t))
 
 pub returns-in-Err-clause-stops : goal.returns-in-Err-clause-stops
-returns-in-Err-clause-stops g c = λ t room start kept.
+returns-in-Err-clause-stops g c = λ t basis start kept.
     let print : List ℕ → Fp = g.F.Fingerprint.printed c.args.store.now.print in
     let sizes : Sizes = sizes_of c.args.store.now.store.journal.geo in
     let i = c.loop-n.invariant in
@@ -44,13 +44,13 @@ returns-in-Err-clause-stops g c = λ t room start kept.
     let old : World = g.R.Rig.world c.loop-n.rig in
     let new : World = g.R.Rig.world c.run_one.new.rig in
     let printed : g.F.Fingerprint.printed c.loop-n.store.print ≡ print = ap g.F.Fingerprint.printed i.same.0 in
-    let h : Holding room print sizes start c.args.seed n c.loop-n.store.store old = i.holds t room start kept in
+    let h : Holding basis print sizes start c.args.seed n c.loop-n.store.store old = i.holds t basis start kept in
     let one : State = state_at print sizes start c.args.seed h.k in
     let s : State = state_at print sizes start c.args.seed n in
     let few : n ≤ c.args.count = omega (arith, c.loop-n-test.true) in
-    all_within room print sizes start c.args.seed n c.args.count few c.loop-n.store.store old new h
-    (subst (λ (p : List ℕ → Fp). AllStandForEither (StandsBy room p) one s new) printed
-    (c.in-Err.ensures.stops t room one s (subst (λ (p : List ℕ → Fp). Kept room p c.loop-n.store.store old one s) (sym printed) h.kept)))
+    all_within basis print sizes start c.args.seed n c.args.count few c.loop-n.store.store old new h
+    (subst (λ (p : List ℕ → Fp). AllStandForEither (StandsBy basis p) one s new) printed
+    (c.in-Err.ensures.stops t basis one s (subst (λ (p : List ℕ → Fp). Kept basis p c.loop-n.store.store old one s) (sym printed) h.kept)))
 
 pub returns-in-Err-clause-frame : goal.returns-in-Err-clause-frame
 returns-in-Err-clause-frame g c =
@@ -69,30 +69,30 @@ loop-n-preserved g c =
     let new : World = g.R.Rig.world c.run_one.new.rig in
     let printed : g.F.Fingerprint.printed c.loop-n.store.print ≡ print = ap g.F.Fingerprint.printed i.same.0 in
     record {
-      crash = λ t room start kept.
-          let h : Holding room print sizes start seed n c.loop-n.store.store old = i.holds t room start kept in
+      crash = λ t basis start kept.
+          let h : Holding basis print sizes start seed n c.loop-n.store.store old = i.holds t basis start kept in
           let one : State = state_at print sizes start seed h.k in
           let s : State = state_at print sizes start seed n in
-          let call : Elapses (g.R.Rig.clock c.loop-n.rig) (g.R.Rig.clock c.run_one.new.rig) (WithinCall (StandsBy room print) one s old) =
-          subst (λ (p : List ℕ → Fp). Elapses (g.R.Rig.clock c.loop-n.rig) (g.R.Rig.clock c.run_one.new.rig) (WithinCall (StandsBy room p) one s old)) printed
-          (c.run_one.ensures.crash t room one s (subst (λ (p : List ℕ → Fp). Kept room p c.loop-n.store.store old one s) (sym printed) h.kept)) in
+          let call : Elapses (g.R.Rig.clock c.loop-n.rig) (g.R.Rig.clock c.run_one.new.rig) (WithinCall (StandsBy basis print) one s old) =
+          subst (λ (p : List ℕ → Fp). Elapses (g.R.Rig.clock c.loop-n.rig) (g.R.Rig.clock c.run_one.new.rig) (WithinCall (StandsBy basis p) one s old)) printed
+          (c.run_one.ensures.crash t basis one s (subst (λ (p : List ℕ → Fp). Kept basis p c.loop-n.store.store old one s) (sym printed) h.kept)) in
           let few : n ≤ c.args.count = omega (arith, c.loop-n-test.true) in
-          goes_on (i.crash t room start kept) call (λ o w. (within_either room print sizes start seed n c.args.count few c.loop-n.store.store old h o.flash o.disk w.0, w.1 ∙ i.said t));
-      holds = λ t room start kept.
-          let h : Holding room print sizes start seed n c.loop-n.store.store old = i.holds t room start kept in
+          goes_on (i.crash t basis start kept) call (λ o w. (within_either basis print sizes start seed n c.args.count few c.loop-n.store.store old h o.flash o.disk w.0, w.1 ∙ i.said t));
+      holds = λ t basis start kept.
+          let h : Holding basis print sizes start seed n c.loop-n.store.store old = i.holds t basis start kept in
           let one : State = state_at print sizes start seed h.k in
           let s : State = state_at print sizes start seed n in
-          holding_next room print sizes start seed n c.loop-n.store.store c.run_one.new.store.store old new h (drawn sizes x).command (ap (λ y. (drawn sizes y).command) i.state)
-          (subst (λ (geo : Geometry). GoesOn room print one s c.run_one.new.store.store new (after (sizes_of geo) s (drawn (sizes_of geo) x).command)) i.same.1
-          (subst (λ (p : List ℕ → Fp). GoesOn room p one s c.run_one.new.store.store new (after (sizes_of c.loop-n.store.store.journal.geo) s (drawn (sizes_of c.loop-n.store.store.journal.geo) x).command)) printed
-          (c.in-Ok.ensures.goes t room one s (subst (λ (p : List ℕ → Fp). Kept room p c.loop-n.store.store old one s) (sym printed) h.kept))));
-      sums = λ t room start kept.
-          let h : Holding room print sizes start seed n c.loop-n.store.store old = i.holds t room start kept in
+          holding_next basis print sizes start seed n c.loop-n.store.store c.run_one.new.store.store old new h (drawn sizes x).command (ap (λ y. (drawn sizes y).command) i.state)
+          (subst (λ (geo : Geometry). GoesOn basis print one s c.run_one.new.store.store new (after (sizes_of geo) s (drawn (sizes_of geo) x).command)) i.same.1
+          (subst (λ (p : List ℕ → Fp). GoesOn basis p one s c.run_one.new.store.store new (after (sizes_of c.loop-n.store.store.journal.geo) s (drawn (sizes_of c.loop-n.store.store.journal.geo) x).command)) printed
+          (c.in-Ok.ensures.goes t basis one s (subst (λ (p : List ℕ → Fp). Kept basis p c.loop-n.store.store old one s) (sym printed) h.kept))));
+      sums = λ t basis start kept.
+          let h : Holding basis print sizes start seed n c.loop-n.store.store old = i.holds t basis start kept in
           let one : State = state_at print sizes start seed h.k in
           let s : State = state_at print sizes start seed n in
-          sums_more room print sizes start seed n x c.loop-n.sums c.in-Ok.counted i.state (i.sums t room start kept)
+          sums_more basis print sizes start seed n x c.loop-n.sums c.in-Ok.counted i.state (i.sums t basis start kept)
           (subst (λ (geo : Geometry). c.in-Ok.counted ≡ counted_by (sizes_of geo) s (drawn (sizes_of geo) x).command c.loop-n.sums) i.same.1
-          (c.in-Ok.ensures.counts t room one s (subst (λ (p : List ℕ → Fp). Kept room p c.loop-n.store.store old one s) (sym printed) h.kept)));
+          (c.in-Ok.ensures.counts t basis one s (subst (λ (p : List ℕ → Fp). Kept basis p c.loop-n.store.store old one s) (sym printed) h.kept)));
       state = drawn_next sizes seed n x c.run_one.new.commands.numbers.x i.state (subst (λ (geo : Geometry). c.run_one.new.commands.numbers.x ≡ (drawn (sizes_of geo) x).state) i.same.1 c.run_one.ensures.state);
       small = c.in-Ok.ensures.below (n + 1) i.small;
       said = λ t. c.run_one.ensures.said t ∙ i.said t;
@@ -104,11 +104,11 @@ loop-n-preserved g c =
     }
 
 pub returns-clause-holds : goal.returns-clause-holds
-returns-clause-holds g c = λ t room start kept.
+returns-clause-holds g c = λ t basis start kept.
     let all : c.loop-n._n ≡ c.args.count = omega (arith, c.loop-n-test.false, c.loop-n.auto._n-end) in
-    subst (λ n. Holding room (g.F.Fingerprint.printed c.args.store.now.print) (sizes_of c.args.store.now.store.journal.geo) start c.args.seed n c.loop-n.store.store (g.R.Rig.world c.loop-n.rig)) all (c.loop-n.invariant.holds t room start kept)
+    subst (λ n. Holding basis (g.F.Fingerprint.printed c.args.store.now.print) (sizes_of c.args.store.now.store.journal.geo) start c.args.seed n c.loop-n.store.store (g.R.Rig.world c.loop-n.rig)) all (c.loop-n.invariant.holds t basis start kept)
 
 pub returns-clause-sums : goal.returns-clause-sums
-returns-clause-sums g c = λ t room start kept.
+returns-clause-sums g c = λ t basis start kept.
     let all : c.loop-n._n ≡ c.args.count = omega (arith, c.loop-n-test.false, c.loop-n.auto._n-end) in
-    subst (λ n. c.loop-n.sums ≡ sums_at (g.F.Fingerprint.printed c.args.store.now.print) (sizes_of c.args.store.now.store.journal.geo) start c.args.seed n) all (c.loop-n.invariant.sums t room start kept)
+    subst (λ n. c.loop-n.sums ≡ sums_at (g.F.Fingerprint.printed c.args.store.now.print) (sizes_of c.args.store.now.store.journal.geo) start c.args.seed n) all (c.loop-n.invariant.sums t basis start kept)

@@ -1,10 +1,10 @@
-use Rattle.std.proofs.Common.{◌≡◌, ◌≤◌, ℕ, []}
+use Rattle.std.proofs.Common.{◌≡◌, ◌≤◌, []}
 use Rattle.dd_rig.specs.declared.device.Dev.TheVariants.{Disk}
 use Rattle.dd_layout.specs.Layout.{disk_need}
 use Rattle.dd_model.specs.State.{State}
 use Rattle.dd_journal.specs.Sitting.{IsStable, Sits}
 use Rattle.dd_store.specs.Keeping.{Kept}
-use Rattle.dd_store.specs.Meaning.{KeepsPace, Means}
+use Rattle.dd_store.specs.Meaning.{HasBehind, Basis, KeepsPace, Means}
 use Rattle.dd_store.specs.Serving.{store_of}
 use Rattle.dd_recover.specs.Opening.{IsOpened}
 use Rattle.dd_recover.specs.Stages.{FoundMeans}
@@ -26,11 +26,11 @@ returns-clause-kept g c = λ told.
     let print = g.F.Fingerprint.printed c.args.print in
     let rows = (g.L.Lists.listing c.in_ok-lists.lists).table in
     ok_along _ _ _
-    (λ new. (room : ℕ) (s : State) → IsStable world.flash → IsStable world.disk → disk_need c.args.geo ≤ g.R.Rig.device_size c.args.rig.now Disk → Sits c.args.found.journal world rows → KeepsPace room c.args.found.journal.epoch rows.a c.committed-count.result
-    → Means print c.args.geo world.flash.shown world.disk.shown rows c.committed-count.result s → Kept room print new.store world s s)
-    (λ new. (room : ℕ) (s : State) → IsStable world.flash → IsStable world.disk → disk_need c.args.geo ≤ g.R.Rig.device_size c.args.rig.now Disk → FoundMeans room print c.args.geo c.args.found world s
-    → Kept room print new.store world s s)
+    (λ new. (basis : Basis) (s : State) → IsStable world.flash → IsStable world.disk → disk_need c.args.geo ≤ g.R.Rig.device_size c.args.rig.now Disk → Sits c.args.found.journal world rows → KeepsPace basis.room c.args.found.journal.epoch rows.a c.committed-count.result → HasBehind basis c.args.geo world.flash.shown world.disk.shown
+    → Means print c.args.geo world.flash.shown world.disk.shown rows c.committed-count.result s → Kept basis print new.store world s s)
+    (λ new. (basis : Basis) (s : State) → IsStable world.flash → IsStable world.disk → disk_need c.args.geo ≤ g.R.Rig.device_size c.args.rig.now Disk → FoundMeans basis print c.args.geo c.args.found world s
+    → Kept basis print new.store world s s)
     _ c.new.result c.map_err.result c.map_err.ensures.cases c.map_err.ensures.variant
-    (λ new keeps room s flash disk large means.
-    found_kept room print c.args.geo c.args.found world s rows c.committed-count.result new.store c.in_ok-lists.ensures.replayed c.committed-count.ensures (keeps room s flash disk large) means)
+    (λ new keeps basis s flash disk large means.
+    found_kept basis print c.args.geo c.args.found world s rows c.committed-count.result new.store c.in_ok-lists.ensures.replayed c.committed-count.ensures (keeps basis s flash disk large) means)
     (c.new.ensures.kept told)

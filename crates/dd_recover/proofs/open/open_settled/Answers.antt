@@ -9,7 +9,7 @@ use Rattle.dd_model.specs.State.{State}
 use Rattle.dd_journal.specs.Regions.{Says}
 use Rattle.dd_journal.specs.Sitting.{IsStable, Sits}
 use Rattle.dd_store.specs.Keeping.{Kept}
-use Rattle.dd_store.specs.Meaning.{Stands}
+use Rattle.dd_store.specs.Meaning.{Basis, Stands}
 use Rattle.dd_recover.specs.Stages.{FoundMeans, HasFound}
 use Rattle.dd_recover.proofs.FoundReading.{found_means, found_says, found_sits, ok_both}
 use Rattle.dd_recover.proofs.Telling.{body_told, found_told}
@@ -40,12 +40,12 @@ returns-clause-kept g c = λ told.
     let same : now ≡ old = now_is ∙ read_is in
     let large : disk_need geo ≤ g.R.Rig.device_size c.find_sized.new.rig Disk = subst (λ (n : Dev → ℕ). disk_need geo ≤ n Disk) (sym c.find_sized.ensures.fails.1.1) c.in_ok-found.ensures.room.1 in
     ok_both c.open_found.result (λ opened. opened.store.journal.geo ≡ geo)
-    (λ opened. (room : ℕ) (s : State) → IsStable now.flash → IsStable now.disk → disk_need geo ≤ g.R.Rig.device_size c.find_sized.new.rig Disk → FoundMeans room print geo found now s → Kept room print opened.store now s s)
-    (λ opened. (room : ℕ) (s : State) (stands : Stands room print old.flash.shown old.disk.shown s) → IsStable old.flash → IsStable old.disk → (opened.store.journal.geo ≡ stands.geo) × Kept room print opened.store now s s)
-    (λ opened at keeps room s stands flash disk.
-    let here = found_means print geo found c.in_ok-found.ensures.found old read now read_is now_is (c.in_ok-geo.ensures.geometry told) (c.in_ok-found.ensures.reads told) (c.in_ok-found.ensures.sits told) flash room s stands in (
+    (λ opened. (basis : Basis) (s : State) → IsStable now.flash → IsStable now.disk → disk_need geo ≤ g.R.Rig.device_size c.find_sized.new.rig Disk → FoundMeans basis print geo found now s → Kept basis print opened.store now s s)
+    (λ opened. (basis : Basis) (s : State) (stands : Stands basis print old.flash.shown old.disk.shown s) → IsStable old.flash → IsStable old.disk → (opened.store.journal.geo ≡ stands.geo) × Kept basis print opened.store now s s)
+    (λ opened at keeps basis s stands flash disk.
+    let here = found_means print geo found c.in_ok-found.ensures.found old read now read_is now_is (c.in_ok-geo.ensures.geometry told) (c.in_ok-found.ensures.reads told) (c.in_ok-found.ensures.sits told) flash basis s stands in (
       at ∙ sym here.0,
-      keeps room s (subst (λ (w : World). IsStable w.flash) (sym same) flash) (subst (λ (w : World). IsStable w.disk) (sym same) disk) large here.1,
+      keeps basis s (subst (λ (w : World). IsStable w.flash) (sym same) flash) (subst (λ (w : World). IsStable w.disk) (sym same) disk) large here.1,
     ))
     c.open_found.ensures.geometry (c.open_found.ensures.kept told)
 

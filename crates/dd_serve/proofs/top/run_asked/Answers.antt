@@ -8,7 +8,7 @@ use Rattle.dd_script.specs.Script.{commands_of, lines_of}
 use Rattle.dd_store.proofs.Kept.{stands_state}
 use Rattle.dd_loop.specs.Ending.{SaysEnding}
 use Rattle.dd_loop.specs.Saying.{SaysAlone}
-use Rattle.dd_answers.specs.Headline.{sizes_from}
+use Rattle.dd_recover.specs.Beginning.{sizes_from}
 use Rattle.dd_serve.specs.declared.words.Asked.{Asked}
 use Rattle.dd_serve.specs.Replays.{lines_since, plan_sizes, replay_commands, replay_dialect, replay_start, said_since}
 use Rattle.dd_serve.specs.Run.{IsCaused, Does, Shows, Leaves, EndsWell, Takes}
@@ -150,7 +150,7 @@ returns-in-Serve-clause-shown g c = λ t.
           let sizes = sizes_from from in
           let says = c.serve.ensures.serves t u from in
           stats_tell printed sizes from.start (commands_of (dialect_of sizes) script) (lines_of says.output).whole (lines_of says.output).rest (commands_in (dialect_of sizes) script)
-          (stands_state from.room printed _ _ from.start from.stands) aligned says.answers;
+          (stands_state from.basis printed _ _ from.start from.stands) aligned says.answers;
     })
 
 pub returns-in-Serve-clause-crash : goal.returns-in-Serve-clause-crash

@@ -9,31 +9,31 @@ use Rattle.dd_store.proofs.Holding.{holds_laying, holds_laid}
 use Rattle.dd_store.proofs.lay.lay_block.Goals as goal
 
 pub returns-clause-crash : goal.returns-clause-crash
-returns-clause-crash g c = λ told room print store held same is may kept.
+returns-clause-crash g c = λ told basis print store held same is may kept.
     let flash = g.met.R.Rig.shows_image c.args.rig.now Flash told in
     let disk = g.met.R.Rig.shows_image c.args.rig.now Disk told in
     let sized = g.met.R.Rig.has_size c.args.rig.now Disk told in
     let place : c.from.result * c.from-2.result ≡ c.args.address * c.args.geo.block = cc in
-    laid_crash room print store (g.R.Rig.world c.args.rig.now) flash disk c.args.geo same (omega (arith, sized, c.requires.disk)) held is kept c.args.address may
+    laid_crash basis print store (g.R.Rig.world c.args.rig.now) flash disk c.args.geo same (omega (arith, sized, c.requires.disk)) held is kept c.args.address may
     (c.from.result * c.from-2.result) (length c.args.from.now) place c.requires.block _ _ (c.write.ensures.time told)
 
 pub returns-clause-kept : goal.returns-clause-kept
-returns-clause-kept g c = λ told room print store held same is may kept.
+returns-clause-kept g c = λ told basis print store held same is may kept.
     let flash = g.met.R.Rig.shows_image c.args.rig.now Flash told in
     let disk = g.met.R.Rig.shows_image c.args.rig.now Disk told in
     let sized = g.met.R.Rig.has_size c.args.rig.now Disk told in
     let place : c.from.result * c.from-2.result ≡ c.args.address * c.args.geo.block = cc in
-    laid_kept room print store (g.R.Rig.world c.args.rig.now) flash disk c.args.geo same (omega (arith, sized, c.requires.disk)) held is kept c.args.address may
+    laid_kept basis print store (g.R.Rig.world c.args.rig.now) flash disk c.args.geo same (omega (arith, sized, c.requires.disk)) held is kept c.args.address may
     (c.from.result * c.from-2.result) (length c.args.from.now) place c.requires.block (g.R.Rig.world c.write.new.self) (c.write.ensures.any told)
 
 pub returns-clause-laid : goal.returns-clause-laid
-returns-clause-laid g c = λ told room print store held same is may kept content_is.
+returns-clause-laid g c = λ told basis print store held same is may kept content_is.
     let flash = g.met.R.Rig.shows_image c.args.rig.now Flash told in
     let disk = g.met.R.Rig.shows_image c.args.rig.now Disk told in
     let sized = g.met.R.Rig.has_size c.args.rig.now Disk told in
     let place : c.from.result * c.from-2.result ≡ c.args.address * c.args.geo.block = cc in
     on_ok_weaker c.write.result
-    (laid_shows room print store (g.R.Rig.world c.args.rig.now) flash disk c.args.geo same (omega (arith, sized, c.requires.disk)) held is kept c.args.address may
+    (laid_shows basis print store (g.R.Rig.world c.args.rig.now) flash disk c.args.geo same (omega (arith, sized, c.requires.disk)) held is kept c.args.address may
     (c.from.result * c.from-2.result) (length c.args.from.now) place c.requires.block (g.R.Rig.world c.write.new.self) c.args.from.now refl content_is (c.write.ensures.any told))
     (c.write.ensures.ok told)
 

@@ -3,30 +3,30 @@ use Rattle.dd_store.proofs.LayingRow.{slot_content, zero_content}
 use Rattle.dd_store.proofs.lay.lay_row.Goals as goal
 
 pub returns-in-Slot-clause-crash : goal.returns-in-Slot-clause-crash
-returns-in-Slot-clause-crash g c = λ told room print store s same is may kept. c.lay_slot.ensures.crash told room print store s same is may.may kept
+returns-in-Slot-clause-crash g c = λ told basis print store s same is may kept. c.lay_slot.ensures.crash told basis print store s same is may.may kept
 
 pub returns-in-Slot-clause-kept : goal.returns-in-Slot-clause-kept
-returns-in-Slot-clause-kept g c = λ told room print store s same is may kept. c.lay_slot.ensures.kept told room print store s same is may.may kept
+returns-in-Slot-clause-kept g c = λ told basis print store s same is may kept. c.lay_slot.ensures.kept told basis print store s same is may.may kept
 
 pub returns-in-Slot-clause-laid : goal.returns-in-Slot-clause-laid
-returns-in-Slot-clause-laid g c = λ told room print store s same is may kept.
-    c.lay_slot.ensures.laid told room print store s same is may.may kept (slot_content print store (g.R.Rig.world c.args.rig.now) c.args.geo same s kept.holds c.args.row may c.args.slots.now _ c.requires.slots c.in-Slot.is)
+returns-in-Slot-clause-laid g c = λ told basis print store s same is may kept.
+    c.lay_slot.ensures.laid told basis print store s same is may.may kept (slot_content print store (g.R.Rig.world c.args.rig.now) c.args.geo same s kept.holds c.args.row may c.args.slots.now _ c.requires.slots c.in-Slot.is)
 
 pub returns-in-Err-clause-crash : goal.returns-in-Err-clause-crash
-returns-in-Err-clause-crash g c = λ told room print store s same is may kept. c.lay_block.ensures.crash told room print store s same is may.may kept
+returns-in-Err-clause-crash g c = λ told basis print store s same is may kept. c.lay_block.ensures.crash told basis print store s same is may.may kept
 
 pub returns-in-Err-clause-kept : goal.returns-in-Err-clause-kept
-returns-in-Err-clause-kept g c = λ told room print store s same is may kept. c.lay_block.ensures.kept told room print store s same is may.may kept
+returns-in-Err-clause-kept g c = λ told basis print store s same is may kept. c.lay_block.ensures.kept told basis print store s same is may.may kept
 
 pub returns-in-Ok-clause-crash : goal.returns-in-Ok-clause-crash
-returns-in-Ok-clause-crash g c = λ told room print store s same is may kept. c.lay_block.ensures.crash told room print store s same is may.may kept
+returns-in-Ok-clause-crash g c = λ told basis print store s same is may kept. c.lay_block.ensures.crash told basis print store s same is may.may kept
 
 pub returns-in-Ok-clause-kept : goal.returns-in-Ok-clause-kept
-returns-in-Ok-clause-kept g c = λ told room print store s same is may kept. c.lay_block.ensures.kept told room print store s same is may.may kept
+returns-in-Ok-clause-kept g c = λ told basis print store s same is may kept. c.lay_block.ensures.kept told basis print store s same is may.may kept
 
 pub returns-in-Ok-clause-laid : goal.returns-in-Ok-clause-laid
-returns-in-Ok-clause-laid g c = λ told room print store s same is may kept.
-    c.in-Ok.ensures.laid told room print store s same is may.may kept (zero_content print store (g.R.Rig.world c.args.rig.now) c.args.geo same s kept.holds c.args.row may c.fill.new.self
+returns-in-Ok-clause-laid g c = λ told basis print store s same is may kept.
+    c.in-Ok.ensures.laid told basis print store s same is may.may kept (zero_content print store (g.R.Rig.world c.args.rig.now) c.args.geo same s kept.holds c.args.row may c.fill.new.self
     (c.fill.ensures.after (λ y same. same) ∙ ap (λ (n : ℕ). replicate n 0) c.requires.block) (c.fill.ensures.len ∙ c.requires.block) c.in-Zero.is)
 
 pub returns-in-Slot-clause-holds : goal.returns-in-Slot-clause-holds

@@ -18,23 +18,23 @@ lay_row-requires-clause-linked g c =
     found_linked c.args.address rows c.in-Some.row (g.met.L.Lists.kept c.args.lists.now).linked c.requires.dirty (sym c.look.ensures ∙ c.in-Some.is)
 
 pub returns-in-Some-clause-crash : goal.returns-in-Some-clause-crash
-returns-in-Some-clause-crash g c = λ told room print store s geo same is may kept.
+returns-in-Some-clause-crash g c = λ told basis print store s geo same is may kept.
     let table = (g.L.Lists.listing c.args.lists.now).table in
     let found : a_row c.args.address table.a ≡ Some c.in-Some.row = sym c.look.ensures ∙ c.in-Some.is in
-    c.lay_row.ensures.crash told room print store s geo is (found_may store table same is c.args.address c.in-Some.row found may) kept
+    c.lay_row.ensures.crash told basis print store s geo is (found_may store table same is c.args.address c.in-Some.row found may) kept
 
 pub returns-in-Some-clause-kept : goal.returns-in-Some-clause-kept
-returns-in-Some-clause-kept g c = λ told room print store s geo same is may kept.
+returns-in-Some-clause-kept g c = λ told basis print store s geo same is may kept.
     let table = (g.L.Lists.listing c.args.lists.now).table in
     let found : a_row c.args.address table.a ≡ Some c.in-Some.row = sym c.look.ensures ∙ c.in-Some.is in
-    c.lay_row.ensures.kept told room print store s geo is (found_may store table same is c.args.address c.in-Some.row found may) kept
+    c.lay_row.ensures.kept told basis print store s geo is (found_may store table same is c.args.address c.in-Some.row found may) kept
 
 pub returns-in-Some-clause-laid : goal.returns-in-Some-clause-laid
-returns-in-Some-clause-laid g c = λ told room print store s geo same is may kept.
+returns-in-Some-clause-laid g c = λ told basis print store s geo same is may kept.
     let table = (g.L.Lists.listing c.args.lists.now).table in
     let found : a_row c.args.address table.a ≡ Some c.in-Some.row = sym c.look.ensures ∙ c.in-Some.is in
-    subst (λ (n : ℕ). OnOk c.lay_row.result (Kept room print (laid_store n store) (g.R.Rig.world c.lay_row.new.rig) s s)) (found_at store table same is c.args.address c.in-Some.row found)
-    (c.lay_row.ensures.laid told room print store s geo is (found_may store table same is c.args.address c.in-Some.row found may) kept)
+    subst (λ (n : ℕ). OnOk c.lay_row.result (Kept basis print (laid_store n store) (g.R.Rig.world c.lay_row.new.rig) s s)) (found_at store table same is c.args.address c.in-Some.row found)
+    (c.lay_row.ensures.laid told basis print store s geo is (found_may store table same is c.args.address c.in-Some.row found may) kept)
 
 pub returns-in-Some-clause-holds : goal.returns-in-Some-clause-holds
 returns-in-Some-clause-holds g c = λ told print store s geo same is may holds.

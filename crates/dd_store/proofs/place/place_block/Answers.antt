@@ -11,18 +11,18 @@ use Rattle.dd_store.proofs.Saving.{saved_crash, saved_holds, saved_kept}
 use Rattle.dd_store.proofs.place.place_block.Goals as goal
 
 pub returns-in_err-save-in-Some-clause-crash : goal.returns-in_err-save-in-Some-clause-crash
-returns-in_err-save-in-Some-clause-crash g c = λ told room print store was held has is kept.
+returns-in_err-save-in-Some-clause-crash g c = λ told basis print store was held has is kept.
     let world = g.R.Rig.world c.args.rig.now in
     let sized = g.met.R.Rig.has_size c.args.rig.now Flash told in
-    saved_crash room print store world (g.met.R.Rig.shows_image c.args.rig.now Flash told) (g.met.R.Rig.shows_image c.args.rig.now Disk told) was held kept is c.args.slots.now has
+    saved_crash basis print store world (g.met.R.Rig.shows_image c.args.rig.now Flash told) (g.met.R.Rig.shows_image c.args.rig.now Disk told) was held kept is c.args.slots.now has
     (omega (arith, sized, c.requires.flash)) c.in-Some.slot c.in-Some.ensures.0 (g.R.Rig.clock c.args.rig.now) (g.R.Rig.clock c.save.new.rig)
     (subst (λ (v : SlotsView). Elapses (g.R.Rig.clock c.args.rig.now) (g.R.Rig.clock c.save.new.rig) (WithinSave v c.in-Some.slot world)) c.in-Some.ensures.1 (c.save.ensures.time told))
 
 pub returns-in_err-save-in-Some-clause-kept : goal.returns-in_err-save-in-Some-clause-kept
-returns-in_err-save-in-Some-clause-kept g c = λ told room print store was held has is kept.
+returns-in_err-save-in-Some-clause-kept g c = λ told basis print store was held has is kept.
     let world = g.R.Rig.world c.args.rig.now in
     let sized = g.met.R.Rig.has_size c.args.rig.now Flash told in
-    saved_kept room print store world (g.met.R.Rig.shows_image c.args.rig.now Flash told) (g.met.R.Rig.shows_image c.args.rig.now Disk told) was held kept is c.args.slots.now has
+    saved_kept basis print store world (g.met.R.Rig.shows_image c.args.rig.now Flash told) (g.met.R.Rig.shows_image c.args.rig.now Disk told) was held kept is c.args.slots.now has
     (omega (arith, sized, c.requires.flash)) c.in-Some.slot c.in-Some.ensures.0 (g.R.Rig.world c.save.new.rig)
     (subst (λ (v : SlotsView). SavesSome v c.in-Some.slot world (g.R.Rig.world c.save.new.rig)) c.in-Some.ensures.1 (c.save.ensures.any told))
 
@@ -39,18 +39,18 @@ returns-in_ok-save-in-Some-clause-shows g c = λ told.
     ap (λ (w : World). block_in slots w.flash.shown c.in-Some.slot) wrote ∙ saved_slot slots c.in-Some.slot c.args.block.now world c.requires.size fits
 
 pub returns-in_ok-save-in-Some-clause-crash : goal.returns-in_ok-save-in-Some-clause-crash
-returns-in_ok-save-in-Some-clause-crash g c = λ told room print store was held has is kept.
+returns-in_ok-save-in-Some-clause-crash g c = λ told basis print store was held has is kept.
     let world = g.R.Rig.world c.args.rig.now in
     let sized = g.met.R.Rig.has_size c.args.rig.now Flash told in
-    saved_crash room print store world (g.met.R.Rig.shows_image c.args.rig.now Flash told) (g.met.R.Rig.shows_image c.args.rig.now Disk told) was held kept is c.args.slots.now has
+    saved_crash basis print store world (g.met.R.Rig.shows_image c.args.rig.now Flash told) (g.met.R.Rig.shows_image c.args.rig.now Disk told) was held kept is c.args.slots.now has
     (omega (arith, sized, c.requires.flash)) c.in-Some.slot c.in-Some.ensures.0 (g.R.Rig.clock c.args.rig.now) (g.R.Rig.clock c.save.new.rig)
     (subst (λ (v : SlotsView). Elapses (g.R.Rig.clock c.args.rig.now) (g.R.Rig.clock c.save.new.rig) (WithinSave v c.in-Some.slot world)) c.in-Some.ensures.1 (c.save.ensures.time told))
 
 pub returns-in_ok-save-in-Some-clause-kept : goal.returns-in_ok-save-in-Some-clause-kept
-returns-in_ok-save-in-Some-clause-kept g c = λ told room print store was held has is kept.
+returns-in_ok-save-in-Some-clause-kept g c = λ told basis print store was held has is kept.
     let world = g.R.Rig.world c.args.rig.now in
     let sized = g.met.R.Rig.has_size c.args.rig.now Flash told in
-    saved_kept room print store world (g.met.R.Rig.shows_image c.args.rig.now Flash told) (g.met.R.Rig.shows_image c.args.rig.now Disk told) was held kept is c.args.slots.now has
+    saved_kept basis print store world (g.met.R.Rig.shows_image c.args.rig.now Flash told) (g.met.R.Rig.shows_image c.args.rig.now Disk told) was held kept is c.args.slots.now has
     (omega (arith, sized, c.requires.flash)) c.in-Some.slot c.in-Some.ensures.0 (g.R.Rig.world c.save.new.rig)
     (subst (λ (v : SlotsView). SavesSome v c.in-Some.slot world (g.R.Rig.world c.save.new.rig)) c.in-Some.ensures.1 (c.save.ensures.any told))
 

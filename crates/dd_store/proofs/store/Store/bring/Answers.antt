@@ -29,8 +29,8 @@ use Rattle.dd_store.proofs.Located.{carries_listed, carries_zeros}
 use Rattle.dd_store.proofs.store.Store.bring.Goals as goal
 
 pub returns-then-is_zero-clause-serves : goal.returns-then-is_zero-clause-serves
-returns-then-is_zero-clause-serves g c = λ told room was s kept read.
-    c.join.ensures.serves told room was s kept c.args.block.now
+returns-then-is_zero-clause-serves g c = λ told basis was s kept read.
+    c.join.ensures.serves told basis was s kept c.args.block.now
     (carries_zeros (g.F.Fingerprint.printed c.args.self.now.print) c.args.self.now.store (g.R.Rig.world c.args.rig.now) s kept.holds c.args.address c.requires.below c.args.block.now c.args.dirty c.requires.long read (sym c.is_zero.ensures ∙ c.if-is_zero.true))
 
 pub returns-then-is_zero-clause-tells : goal.returns-then-is_zero-clause-tells
@@ -54,28 +54,28 @@ join-requires-in-Some-clause-record g c =
     )
 
 pub returns-in-Err-clause-serves : goal.returns-in-Err-clause-serves
-returns-in-Err-clause-serves g c = λ told room was s kept read.
+returns-in-Err-clause-serves g c = λ told basis was s kept read.
     let print = g.F.Fingerprint.printed c.args.self.now.print in
-    serves_failed room Done print c.in-Err.fault (inl c.in-Err.ensures.fault) (g.R.Rig.clock c.args.rig.now) (g.R.Rig.clock c.find_block.new.rig) c.find_block.new.self.store (g.R.Rig.world c.find_block.new.rig) was s _ (c.find_block.ensures.time told)
-    (kept_behind room print c.args.self.now.store c.find_block.new.self.store (g.R.Rig.world c.args.rig.now) (g.R.Rig.world c.find_block.new.rig) was s c.find_block.ensures.store (c.find_block.ensures.world told) kept)
+    serves_failed basis Done print c.in-Err.fault (inl c.in-Err.ensures.fault) (g.R.Rig.clock c.args.rig.now) (g.R.Rig.clock c.find_block.new.rig) c.find_block.new.self.store (g.R.Rig.world c.find_block.new.rig) was s _ (c.find_block.ensures.time told)
+    (kept_behind basis print c.args.self.now.store c.find_block.new.self.store (g.R.Rig.world c.args.rig.now) (g.R.Rig.world c.find_block.new.rig) was s c.find_block.ensures.store (c.find_block.ensures.world told) kept)
 
 pub returns-in-None-clause-serves : goal.returns-in-None-clause-serves
-returns-in-None-clause-serves g c = λ told room was s kept read.
+returns-in-None-clause-serves g c = λ told basis was s kept read.
     let print = g.F.Fingerprint.printed c.args.self.now.print in
     let first = g.R.Rig.clock c.args.rig.now in
     let second = g.R.Rig.clock c.find_block.new.rig in
     let before = g.R.Rig.world c.args.rig.now in
     let middle = g.R.Rig.world c.find_block.new.rig in
-    let held : Kept room print c.find_block.new.self.store middle was s = kept_behind room print c.args.self.now.store c.find_block.new.self.store before middle was s c.find_block.ensures.store (c.find_block.ensures.world told) kept in
-    let held_too = subst (λ f. Kept room (g.F.Fingerprint.printed f) c.find_block.new.self.store middle was s) (sym c.find_block.ensures.print) held in
+    let held : Kept basis print c.find_block.new.self.store middle was s = kept_behind basis print c.args.self.now.store c.find_block.new.self.store before middle was s c.find_block.ensures.store (c.find_block.ensures.world told) kept in
+    let held_too = subst (λ f. Kept basis (g.F.Fingerprint.printed f) c.find_block.new.self.store middle was s) (sym c.find_block.ensures.print) held in
     let fp_is : c.print-fp.result ≡ g.F.Fingerprint.printed c.args.self.now.print c.args.block.now = c.print-fp.ensures ∙ ap (λ (v : StoreOf g.row.F.Denot). g.F.Fingerprint.printed v.print c.args.block.now) c.self.view_is in
     let printed : c.print-fp.result ≡ g.F.Fingerprint.printed c.find_block.new.self.print c.args.block.now = fp_is ∙ ap (λ f. g.F.Fingerprint.printed f c.args.block.now) (sym c.find_block.ensures.print) in
     let some : is_zero_block c.args.block.now ≡ false = sym c.is_zero.ensures ∙ c.if-is_zero.false in
     let found = subst (FoundAs c.args.self.now.store.journal.geo before.flash.shown s c.args.block.now) c.in-None.is (c.in-Ok.ensures.found told print s kept.holds fp_is) in
-    subst (λ (v : StoreView). Serves room print c.enter.result first (g.R.Rig.clock c.enter.new.rig) c.enter.new.self.store (g.R.Rig.world c.enter.new.rig) was s (reference (sizes_of v.journal.geo) s c.args.address c.args.block.now)) c.find_block.ensures.store
-    (serves_behind room print c.enter.result (c.find_block.ensures.time told)
-    (subst (λ f. Serves room (g.F.Fingerprint.printed f) c.enter.result second (g.R.Rig.clock c.enter.new.rig) c.enter.new.self.store (g.R.Rig.world c.enter.new.rig) was s (reference (sizes_of c.find_block.new.self.store.journal.geo) s c.args.address c.args.block.now)) c.find_block.ensures.print
-    (c.enter.ensures.serves told room was s held_too printed some found read)))
+    subst (λ (v : StoreView). Serves basis print c.enter.result first (g.R.Rig.clock c.enter.new.rig) c.enter.new.self.store (g.R.Rig.world c.enter.new.rig) was s (reference (sizes_of v.journal.geo) s c.args.address c.args.block.now)) c.find_block.ensures.store
+    (serves_behind basis print c.enter.result (c.find_block.ensures.time told)
+    (subst (λ f. Serves basis (g.F.Fingerprint.printed f) c.enter.result second (g.R.Rig.clock c.enter.new.rig) c.enter.new.self.store (g.R.Rig.world c.enter.new.rig) was s (reference (sizes_of c.find_block.new.self.store.journal.geo) s c.args.address c.args.block.now)) c.find_block.ensures.print
+    (c.enter.ensures.serves told basis was s held_too printed some found read)))
 
 pub returns-in-None-clause-tells : goal.returns-in-None-clause-tells
 returns-in-None-clause-tells g c = λ told s holds read.
@@ -110,14 +110,14 @@ returns-in-None-clause-disk g c = disk_fresh c.args.address (candidates c.print-
     (g.R.Rig.counts c.args.rig.now) (g.R.Rig.counts c.find_block.new.rig) (g.R.Rig.counts c.enter.new.rig) c.find_block.ensures.calls c.enter.result c.enter.ensures.kind c.enter.ensures.disk
 
 pub returns-in-Some-clause-serves : goal.returns-in-Some-clause-serves
-returns-in-Some-clause-serves g c = λ told room was s kept read.
+returns-in-Some-clause-serves g c = λ told basis was s kept read.
     let print = g.F.Fingerprint.printed c.args.self.now.print in
     let first = g.R.Rig.clock c.args.rig.now in
     let second = g.R.Rig.clock c.find_block.new.rig in
     let before = g.R.Rig.world c.args.rig.now in
     let middle = g.R.Rig.world c.find_block.new.rig in
-    let held : Kept room print c.find_block.new.self.store middle was s = kept_behind room print c.args.self.now.store c.find_block.new.self.store before middle was s c.find_block.ensures.store (c.find_block.ensures.world told) kept in
-    let held_too = subst (λ f. Kept room (g.F.Fingerprint.printed f) c.find_block.new.self.store middle was s) (sym c.find_block.ensures.print) held in
+    let held : Kept basis print c.find_block.new.self.store middle was s = kept_behind basis print c.args.self.now.store c.find_block.new.self.store before middle was s c.find_block.ensures.store (c.find_block.ensures.world told) kept in
+    let held_too = subst (λ f. Kept basis (g.F.Fingerprint.printed f) c.find_block.new.self.store middle was s) (sym c.find_block.ensures.print) held in
     let fp_is : c.print-fp.result ≡ g.F.Fingerprint.printed c.args.self.now.print c.args.block.now = c.print-fp.ensures ∙ ap (λ (v : StoreOf g.row.F.Denot). g.F.Fingerprint.printed v.print c.args.block.now) c.self.view_is in
     let printed : c.print-fp.result ≡ g.F.Fingerprint.printed c.find_block.new.self.print c.args.block.now = fp_is ∙ ap (λ f. g.F.Fingerprint.printed f c.args.block.now) (sym c.find_block.ensures.print) in
     let some : is_zero_block c.args.block.now ≡ false = sym c.is_zero.ensures ∙ c.if-is_zero.false in
@@ -127,10 +127,10 @@ returns-in-Some-clause-serves g c = λ told room was s kept read.
     let long = subst (λ (v : StoreView). length c.args.block.now ≡ v.journal.geo.block) (sym c.find_block.ensures.store) c.requires.long in
     let is_given = subst (λ (v : StoreView). IsGiven (listing_in v) (Known c.in-Some.slot)) (sym c.find_block.ensures.store) (subst (λ o. IfSome o (λ slot. IsGiven (listing_in c.args.self.now.store) (Known slot))) c.in-Some.is c.in-Ok.ensures.listed) in
     let carries = carries_listed (g.F.Fingerprint.printed c.find_block.new.self.print) c.find_block.new.self.store middle s held_too.holds c.args.address below c.args.block.now c.args.dirty long read c.in-Some.slot is_given slot_holds in
-    subst (λ (v : StoreView). Serves room print c.join-in-Some.result first (g.R.Rig.clock c.join-in-Some.new.rig) c.join-in-Some.new.self.store (g.R.Rig.world c.join-in-Some.new.rig) was s (reference (sizes_of v.journal.geo) s c.args.address c.args.block.now)) c.find_block.ensures.store
-    (serves_behind room print c.join-in-Some.result (c.find_block.ensures.time told)
-    (subst (λ f. Serves room (g.F.Fingerprint.printed f) c.join-in-Some.result second (g.R.Rig.clock c.join-in-Some.new.rig) c.join-in-Some.new.self.store (g.R.Rig.world c.join-in-Some.new.rig) was s (reference (sizes_of c.find_block.new.self.store.journal.geo) s c.args.address c.args.block.now)) c.find_block.ensures.print
-    (c.join-in-Some.ensures.serves told room was s held_too c.args.block.now carries)))
+    subst (λ (v : StoreView). Serves basis print c.join-in-Some.result first (g.R.Rig.clock c.join-in-Some.new.rig) c.join-in-Some.new.self.store (g.R.Rig.world c.join-in-Some.new.rig) was s (reference (sizes_of v.journal.geo) s c.args.address c.args.block.now)) c.find_block.ensures.store
+    (serves_behind basis print c.join-in-Some.result (c.find_block.ensures.time told)
+    (subst (λ f. Serves basis (g.F.Fingerprint.printed f) c.join-in-Some.result second (g.R.Rig.clock c.join-in-Some.new.rig) c.join-in-Some.new.self.store (g.R.Rig.world c.join-in-Some.new.rig) was s (reference (sizes_of c.find_block.new.self.store.journal.geo) s c.args.address c.args.block.now)) c.find_block.ensures.print
+    (c.join-in-Some.ensures.serves told basis was s held_too c.args.block.now carries)))
 
 pub returns-in-Some-clause-tells : goal.returns-in-Some-clause-tells
 returns-in-Some-clause-tells g c = λ told s holds read.

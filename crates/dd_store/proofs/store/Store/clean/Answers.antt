@@ -20,19 +20,19 @@ rounds-requires-clause-epoch g c =
     ⊎_elim (λ stays. omega (arith, c.requires.epoch, few, same, kept, stays, i.journal.geo.acap_most)) (λ rises. omega (arith, c.requires.epoch, few, same, kept, rises, i.journal.geo.acap_most)) c.commit.ensures.epoch
 
 pub returns-in-Ok-clause-serves : goal.returns-in-Ok-clause-serves
-returns-in-Ok-clause-serves g c = λ told room was s kept.
+returns-in-Ok-clause-serves g c = λ told basis was s kept.
     let print = g.F.Fingerprint.printed in
-    serves_next room (print c.args.self.now.print) (print c.commit.new.self.print) (ap print c.commit.ensures.rests.print) (g.R.Rig.clock c.args.rig.now) (g.R.Rig.clock c.commit.new.rig) (g.R.Rig.clock c.rounds.new.rig)
+    serves_next basis (print c.args.self.now.print) (print c.commit.new.self.print) (ap print c.commit.ensures.rests.print) (g.R.Rig.clock c.args.rig.now) (g.R.Rig.clock c.commit.new.rig) (g.R.Rig.clock c.rounds.new.rig)
     c.commit.new.self.store c.rounds.new.self.store (g.R.Rig.world c.commit.new.rig) (g.R.Rig.world c.rounds.new.rig) was s s tt c.rounds.result
-    (c.in-Ok.ensures.serves told room was s kept) (λ k held. c.rounds.ensures.serves told room k s held)
+    (c.in-Ok.ensures.serves told basis was s kept) (λ k held. c.rounds.ensures.serves told basis k s held)
 
 pub returns-in-Ok-clause-committed : goal.returns-in-Ok-clause-committed
-returns-in-Ok-clause-committed g c = λ told room was s kept.
+returns-in-Ok-clause-committed g c = λ told basis was s kept.
     let print = g.F.Fingerprint.printed in
-    subst (λ (p : List ℕ → Fp). OnOk c.rounds.result (Kept room p c.rounds.new.self.store (g.R.Rig.world c.rounds.new.rig) s s)) (ap print c.commit.ensures.rests.print)
-    (kept_sure room (print c.commit.new.self.print) c.rounds.result c.rounds.new.self.store (g.R.Rig.world c.rounds.new.rig) s
-    (on_leaves room (print c.commit.new.self.print) c.rounds.result s s s c.rounds.new.self.store (g.R.Rig.world c.rounds.new.rig) (c.rounds.ensures.serves told room s s
-    (subst (λ (p : List ℕ → Fp). Kept room p c.commit.new.self.store (g.R.Rig.world c.commit.new.rig) s s) (sym (ap print c.commit.ensures.rests.print)) (c.in-Ok.ensures.committed told room was s kept))).leaves))
+    subst (λ (p : List ℕ → Fp). OnOk c.rounds.result (Kept basis p c.rounds.new.self.store (g.R.Rig.world c.rounds.new.rig) s s)) (ap print c.commit.ensures.rests.print)
+    (kept_sure basis (print c.commit.new.self.print) c.rounds.result c.rounds.new.self.store (g.R.Rig.world c.rounds.new.rig) s
+    (on_leaves basis (print c.commit.new.self.print) c.rounds.result s s s c.rounds.new.self.store (g.R.Rig.world c.rounds.new.rig) (c.rounds.ensures.serves told basis s s
+    (subst (λ (p : List ℕ → Fp). Kept basis p c.commit.new.self.store (g.R.Rig.world c.commit.new.rig) s s) (sym (ap print c.commit.ensures.rests.print)) (c.in-Ok.ensures.committed told basis was s kept))).leaves))
 
 pub returns-in-Ok-clause-none : goal.returns-in-Ok-clause-none
 returns-in-Ok-clause-none g c = none_left c.rounds.result c.rounds.new.self.store c.rounds.ensures.none

@@ -28,7 +28,7 @@ invariant_of-self-in-Ok g c =
     )
 
 pub returns-in-Err-clause-serves : goal.returns-in-Err-clause-serves
-returns-in-Err-clause-serves g c = λ told room was_it s kept.
+returns-in-Err-clause-serves g c = λ told basis was_it s kept.
     let i = c.self.inside in
     let was : StoreView = store_of i.up i.journal (g.L.Lists.listing i.lists) i.count i.pending.items i.slots.uses i.laid.items in
     let world = g.R.Rig.world c.args.rig.now in
@@ -36,15 +36,15 @@ returns-in-Err-clause-serves g c = λ told room was_it s kept.
     let is : IsStore was = c.self.invariant.7 (ap (λ (v : StoreOf g.row.F.Denot). v.store.is_up) c.self.view_is ∙ c.requires.up) in
     let base : StoreView = record was { pending = c.as_slice.result.now; laid = [] } in
     let its_type : IsStore base = subst (λ (recs : List Rec). IsStore (record was { pending = recs; laid = [] })) (sym c.as_slice.ensures.value) (unlaid_is was is) in
-    let its : Kept room print was world was_it s = subst (λ (v : StoreOf g.row.F.Denot). Kept room print v.store world was_it s) (sym c.self.view_is) kept in
-    let held : Kept room print base world was_it s = subst (λ (recs : List Rec). Kept room print (record was { pending = recs; laid = [] }) world was_it s) (sym c.as_slice.ensures.value) (kept_unlaid room print was world was_it s its) in
+    let its : Kept basis print was world was_it s = subst (λ (v : StoreOf g.row.F.Denot). Kept basis print v.store world was_it s) (sym c.self.view_is) kept in
+    let held : Kept basis print base world was_it s = subst (λ (recs : List Rec). Kept basis print (record was { pending = recs; laid = [] }) world was_it s) (sym c.as_slice.ensures.value) (kept_unlaid basis print was world was_it s its) in
     record {
-      crash = c.commit_rows.ensures.crash told room print base was_it s its_type held;
-      leaves = c.commit_rows.ensures.now told room print base was_it s its_type held;
+      crash = c.commit_rows.ensures.crash told basis print base was_it s its_type held;
+      leaves = c.commit_rows.ensures.now told basis print base was_it s its_type held;
     }
 
 pub returns-in-Ok-clause-serves : goal.returns-in-Ok-clause-serves
-returns-in-Ok-clause-serves g c = λ told room was_it s kept.
+returns-in-Ok-clause-serves g c = λ told basis was_it s kept.
     let i = c.self.inside in
     let was : StoreView = store_of i.up i.journal (g.L.Lists.listing i.lists) i.count i.pending.items i.slots.uses i.laid.items in
     let world = g.R.Rig.world c.args.rig.now in
@@ -52,21 +52,21 @@ returns-in-Ok-clause-serves g c = λ told room was_it s kept.
     let is : IsStore was = c.self.invariant.7 (ap (λ (v : StoreOf g.row.F.Denot). v.store.is_up) c.self.view_is ∙ c.requires.up) in
     let base : StoreView = record was { pending = c.as_slice.result.now; laid = [] } in
     let its_type : IsStore base = subst (λ (recs : List Rec). IsStore (record was { pending = recs; laid = [] })) (sym c.as_slice.ensures.value) (unlaid_is was is) in
-    let its : Kept room print was world was_it s = subst (λ (v : StoreOf g.row.F.Denot). Kept room print v.store world was_it s) (sym c.self.view_is) kept in
-    let held : Kept room print base world was_it s = subst (λ (recs : List Rec). Kept room print (record was { pending = recs; laid = [] }) world was_it s) (sym c.as_slice.ensures.value) (kept_unlaid room print was world was_it s its) in
+    let its : Kept basis print was world was_it s = subst (λ (v : StoreOf g.row.F.Denot). Kept basis print v.store world was_it s) (sym c.self.view_is) kept in
+    let held : Kept basis print base world was_it s = subst (λ (recs : List Rec). Kept basis print (record was { pending = recs; laid = [] }) world was_it s) (sym c.as_slice.ensures.value) (kept_unlaid basis print was world was_it s its) in
     record {
-      crash = c.commit_rows.ensures.crash told room print base was_it s its_type held;
+      crash = c.commit_rows.ensures.crash told basis print base was_it s its_type held;
       leaves = record {
         committed = s;
         either = inr refl;
-        kept = flushed_is (λ (v : StoreView). Kept room print v (g.R.Rig.world c.commit_rows.new.rig) s s) was c.commit_rows.new.journal c.clear-in-Ok.new.self.items c.settle.new.self.uses c.clear.new.self.items
+        kept = flushed_is (λ (v : StoreView). Kept basis print v (g.R.Rig.world c.commit_rows.new.rig) s s) was c.commit_rows.new.journal c.clear-in-Ok.new.self.items c.settle.new.self.uses c.clear.new.self.items
             c.clear-in-Ok.ensures.items (ap (λ (v : SlotsView). v.uses) c.settle.ensures) c.clear.ensures.items
-            (c.in-Ok.ensures.kept told room print base was_it s its_type held);
+            (c.in-Ok.ensures.kept told basis print base was_it s its_type held);
       };
     }
 
 pub returns-in-Ok-clause-committed : goal.returns-in-Ok-clause-committed
-returns-in-Ok-clause-committed g c = λ told room was_it s kept.
+returns-in-Ok-clause-committed g c = λ told basis was_it s kept.
     let i = c.self.inside in
     let was : StoreView = store_of i.up i.journal (g.L.Lists.listing i.lists) i.count i.pending.items i.slots.uses i.laid.items in
     let world = g.R.Rig.world c.args.rig.now in
@@ -74,11 +74,11 @@ returns-in-Ok-clause-committed g c = λ told room was_it s kept.
     let is : IsStore was = c.self.invariant.7 (ap (λ (v : StoreOf g.row.F.Denot). v.store.is_up) c.self.view_is ∙ c.requires.up) in
     let base : StoreView = record was { pending = c.as_slice.result.now; laid = [] } in
     let its_type : IsStore base = subst (λ (recs : List Rec). IsStore (record was { pending = recs; laid = [] })) (sym c.as_slice.ensures.value) (unlaid_is was is) in
-    let its : Kept room print was world was_it s = subst (λ (v : StoreOf g.row.F.Denot). Kept room print v.store world was_it s) (sym c.self.view_is) kept in
-    let held : Kept room print base world was_it s = subst (λ (recs : List Rec). Kept room print (record was { pending = recs; laid = [] }) world was_it s) (sym c.as_slice.ensures.value) (kept_unlaid room print was world was_it s its) in
-    flushed_is (λ (v : StoreView). Kept room print v (g.R.Rig.world c.commit_rows.new.rig) s s) was c.commit_rows.new.journal c.clear-in-Ok.new.self.items c.settle.new.self.uses c.clear.new.self.items
+    let its : Kept basis print was world was_it s = subst (λ (v : StoreOf g.row.F.Denot). Kept basis print v.store world was_it s) (sym c.self.view_is) kept in
+    let held : Kept basis print base world was_it s = subst (λ (recs : List Rec). Kept basis print (record was { pending = recs; laid = [] }) world was_it s) (sym c.as_slice.ensures.value) (kept_unlaid basis print was world was_it s its) in
+    flushed_is (λ (v : StoreView). Kept basis print v (g.R.Rig.world c.commit_rows.new.rig) s s) was c.commit_rows.new.journal c.clear-in-Ok.new.self.items c.settle.new.self.uses c.clear.new.self.items
     c.clear-in-Ok.ensures.items (ap (λ (v : SlotsView). v.uses) c.settle.ensures) c.clear.ensures.items
-    (c.in-Ok.ensures.kept told room print base was_it s its_type held)
+    (c.in-Ok.ensures.kept told basis print base was_it s its_type held)
 
 pub returns-in-Ok-clause-holds : goal.returns-in-Ok-clause-holds
 returns-in-Ok-clause-holds g c = λ told s holds.

@@ -22,41 +22,41 @@ pub refer_fresh-requires-clause-anew : goal.refer_fresh-requires-clause-anew
 refer_fresh-requires-clause-anew g c = anew_still c.args.self.now.store c.prepare.new.self.store c.in-Ok.ensures.rows c.args.dirty c.args.address c.requires.anew
 
 pub returns-in-Err-clause-serves : goal.returns-in-Err-clause-serves
-returns-in-Err-clause-serves g c = λ told room was s kept printed some unknown read.
-    serves_fault room (Unit {0}) Done (g.F.Fingerprint.printed c.args.self.now.print) (g.R.Rig.clock c.args.rig.now) (g.R.Rig.clock c.prepare.new.rig) c.prepare.new.self.store (g.R.Rig.world c.prepare.new.rig) was s s _
-    c.in-Err.fault (c.in-Err.ensures.serves told room was s kept)
+returns-in-Err-clause-serves g c = λ told basis was s kept printed some unknown read.
+    serves_fault basis (Unit {0}) Done (g.F.Fingerprint.printed c.args.self.now.print) (g.R.Rig.clock c.args.rig.now) (g.R.Rig.clock c.prepare.new.rig) c.prepare.new.self.store (g.R.Rig.world c.prepare.new.rig) was s s _
+    c.in-Err.fault (c.in-Err.ensures.serves told basis was s kept)
 
 pub returns-in-Err-refer_fresh-clause-serves : goal.returns-in-Err-refer_fresh-clause-serves
-returns-in-Err-refer_fresh-clause-serves g c = λ told room was s kept printed some unknown read.
+returns-in-Err-refer_fresh-clause-serves g c = λ told basis was s kept printed some unknown read.
     let print = g.F.Fingerprint.printed c.args.self.now.print in
     let first = g.R.Rig.clock c.args.rig.now in
     let second = g.R.Rig.clock c.prepare.new.rig in
     let last = g.R.Rig.clock c.refer_fresh.new.rig in
     let after = g.R.Rig.world c.refer_fresh.new.rig in
-    let roomy = c.in-Ok.ensures.serves told room was s kept in
-    serves_fault room Cut Done print first last c.refer_fresh.new.self.store after was s (reference (sizes_of c.prepare.new.self.store.journal.geo) s c.args.address c.args.block.now) _ c.in-Err-refer_fresh.fault
-    (serves_then room print first second last c.prepare.new.self.store c.refer_fresh.new.self.store (g.R.Rig.world c.prepare.new.rig) after was s (reference (sizes_of c.prepare.new.self.store.journal.geo) s c.args.address c.args.block.now)
+    let roomy = c.in-Ok.ensures.serves told basis was s kept in
+    serves_fault basis Cut Done print first last c.refer_fresh.new.self.store after was s (reference (sizes_of c.prepare.new.self.store.journal.geo) s c.args.address c.args.block.now) _ c.in-Err-refer_fresh.fault
+    (serves_then basis print first second last c.prepare.new.self.store c.refer_fresh.new.self.store (g.R.Rig.world c.prepare.new.rig) after was s (reference (sizes_of c.prepare.new.self.store.journal.geo) s c.args.address c.args.block.now)
     (Err c.in-Err-refer_fresh.fault) roomy.crash roomy.leaves
     (λ k held.
-    subst (λ f. Serves {T = Cut} room (g.F.Fingerprint.printed f) (Err c.in-Err-refer_fresh.fault) second last c.refer_fresh.new.self.store after k s (reference (sizes_of c.prepare.new.self.store.journal.geo) s c.args.address c.args.block.now)) c.prepare.ensures.rests.print
-    (c.in-Err-refer_fresh.ensures.serves told room k s (subst (λ f. Kept room (g.F.Fingerprint.printed f) c.prepare.new.self.store (g.R.Rig.world c.prepare.new.rig) k s) (sym c.prepare.ensures.rests.print) held)
+    subst (λ f. Serves {T = Cut} basis (g.F.Fingerprint.printed f) (Err c.in-Err-refer_fresh.fault) second last c.refer_fresh.new.self.store after k s (reference (sizes_of c.prepare.new.self.store.journal.geo) s c.args.address c.args.block.now)) c.prepare.ensures.rests.print
+    (c.in-Err-refer_fresh.ensures.serves told basis k s (subst (λ f. Kept basis (g.F.Fingerprint.printed f) c.prepare.new.self.store (g.R.Rig.world c.prepare.new.rig) k s) (sym c.prepare.ensures.rests.print) held)
     (printed ∙ ap (λ f. g.F.Fingerprint.printed f c.args.block.now) (sym c.prepare.ensures.rests.print)) some unknown read)))
 
 pub returns-in-Ok-refer_fresh-clause-serves : goal.returns-in-Ok-refer_fresh-clause-serves
-returns-in-Ok-refer_fresh-clause-serves g c = λ told room was s kept printed some unknown read.
+returns-in-Ok-refer_fresh-clause-serves g c = λ told basis was s kept printed some unknown read.
     let print = g.F.Fingerprint.printed c.args.self.now.print in
     let first = g.R.Rig.clock c.args.rig.now in
     let second = g.R.Rig.clock c.prepare.new.rig in
     let last = g.R.Rig.clock c.refer_fresh.new.rig in
     let after = g.R.Rig.world c.refer_fresh.new.rig in
-    let roomy = c.in-Ok.ensures.serves told room was s kept in
-    subst (λ (geo : Geometry). Serves {T = Done} room print (Ok (record { kind = c.fresh_kind.result; cut = c.in-Ok-refer_fresh.cut })) first last c.refer_fresh.new.self.store after was s (reference (sizes_of geo) s c.args.address c.args.block.now)) c.in-Ok.ensures.rows.geometry
-    (serves_ok room print first last c.refer_fresh.new.self.store after was s (reference (sizes_of c.prepare.new.self.store.journal.geo) s c.args.address c.args.block.now) c.in-Ok-refer_fresh.cut (record { kind = c.fresh_kind.result; cut = c.in-Ok-refer_fresh.cut })
-    (serves_then room print first second last c.prepare.new.self.store c.refer_fresh.new.self.store (g.R.Rig.world c.prepare.new.rig) after was s (reference (sizes_of c.prepare.new.self.store.journal.geo) s c.args.address c.args.block.now)
+    let roomy = c.in-Ok.ensures.serves told basis was s kept in
+    subst (λ (geo : Geometry). Serves {T = Done} basis print (Ok (record { kind = c.fresh_kind.result; cut = c.in-Ok-refer_fresh.cut })) first last c.refer_fresh.new.self.store after was s (reference (sizes_of geo) s c.args.address c.args.block.now)) c.in-Ok.ensures.rows.geometry
+    (serves_ok basis print first last c.refer_fresh.new.self.store after was s (reference (sizes_of c.prepare.new.self.store.journal.geo) s c.args.address c.args.block.now) c.in-Ok-refer_fresh.cut (record { kind = c.fresh_kind.result; cut = c.in-Ok-refer_fresh.cut })
+    (serves_then basis print first second last c.prepare.new.self.store c.refer_fresh.new.self.store (g.R.Rig.world c.prepare.new.rig) after was s (reference (sizes_of c.prepare.new.self.store.journal.geo) s c.args.address c.args.block.now)
     (Ok c.in-Ok-refer_fresh.cut) roomy.crash roomy.leaves
     (λ k held.
-    subst (λ f. Serves {T = Cut} room (g.F.Fingerprint.printed f) (Ok c.in-Ok-refer_fresh.cut) second last c.refer_fresh.new.self.store after k s (reference (sizes_of c.prepare.new.self.store.journal.geo) s c.args.address c.args.block.now)) c.prepare.ensures.rests.print
-    (c.in-Ok-refer_fresh.ensures.serves told room k s (subst (λ f. Kept room (g.F.Fingerprint.printed f) c.prepare.new.self.store (g.R.Rig.world c.prepare.new.rig) k s) (sym c.prepare.ensures.rests.print) held)
+    subst (λ f. Serves {T = Cut} basis (g.F.Fingerprint.printed f) (Ok c.in-Ok-refer_fresh.cut) second last c.refer_fresh.new.self.store after k s (reference (sizes_of c.prepare.new.self.store.journal.geo) s c.args.address c.args.block.now)) c.prepare.ensures.rests.print
+    (c.in-Ok-refer_fresh.ensures.serves told basis k s (subst (λ f. Kept basis (g.F.Fingerprint.printed f) c.prepare.new.self.store (g.R.Rig.world c.prepare.new.rig) k s) (sym c.prepare.ensures.rests.print) held)
     (printed ∙ ap (λ f. g.F.Fingerprint.printed f c.args.block.now) (sym c.prepare.ensures.rests.print)) some unknown read))))
 
 pub returns-in-Ok-refer_fresh-clause-tells : goal.returns-in-Ok-refer_fresh-clause-tells

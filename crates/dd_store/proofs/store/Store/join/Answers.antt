@@ -12,15 +12,15 @@ pub refer_known-requires-clause-touches : goal.refer_known-requires-clause-touch
 refer_known-requires-clause-touches g c = touches_still c.args.self.now.store c.prepare.new.self.store c.in-Ok.ensures.rows c.args.its c.args.address c.args.block c.args.dirty c.requires.touches
 
 pub returns-in-Err-clause-serves : goal.returns-in-Err-clause-serves
-returns-in-Err-clause-serves g c = λ told room was s kept bytes carries.
-    serves_fault room (Unit {0}) Done (g.F.Fingerprint.printed c.args.self.now.print) (g.R.Rig.clock c.args.rig.now) (g.R.Rig.clock c.prepare.new.rig) c.prepare.new.self.store (g.R.Rig.world c.prepare.new.rig) was s s _
-    c.in-Err.fault (c.in-Err.ensures.serves told room was s kept)
+returns-in-Err-clause-serves g c = λ told basis was s kept bytes carries.
+    serves_fault basis (Unit {0}) Done (g.F.Fingerprint.printed c.args.self.now.print) (g.R.Rig.clock c.args.rig.now) (g.R.Rig.clock c.prepare.new.rig) c.prepare.new.self.store (g.R.Rig.world c.prepare.new.rig) was s s _
+    c.in-Err.fault (c.in-Err.ensures.serves told basis was s kept)
 
 pub returns-in-Ok-clause-serves : goal.returns-in-Ok-clause-serves
-returns-in-Ok-clause-serves g c = λ told room was s kept bytes carries.
-    joined room (g.F.Fingerprint.printed c.args.self.now.print) c.args.self.now.store c.prepare.new.self.store (g.R.Rig.world c.args.rig.now) (g.R.Rig.world c.prepare.new.rig) was s c.args.its c.args.address c.args.block c.args.dirty bytes
+returns-in-Ok-clause-serves g c = λ told basis was s kept bytes carries.
+    joined basis (g.F.Fingerprint.printed c.args.self.now.print) c.args.self.now.store c.prepare.new.self.store (g.R.Rig.world c.args.rig.now) (g.R.Rig.world c.prepare.new.rig) was s c.args.its c.args.address c.args.block c.args.dirty bytes
     c.in-Ok.ensures.rows c.refer_known.ensures.keeps c.refer_known.ensures.fits c.requires.known kept carries
-    (g.R.Rig.clock c.args.rig.now) (g.R.Rig.clock c.prepare.new.rig) c.refer_known.new.self.store (record { kind = c.kind_of.result; cut = c.refer_known.result }) c.refer_known.ensures.store (c.in-Ok.ensures.serves told room was s kept)
+    (g.R.Rig.clock c.args.rig.now) (g.R.Rig.clock c.prepare.new.rig) c.refer_known.new.self.store (record { kind = c.kind_of.result; cut = c.refer_known.result }) c.refer_known.ensures.store (c.in-Ok.ensures.serves told basis was s kept)
 
 pub returns-in-Ok-clause-tells : goal.returns-in-Ok-clause-tells
 returns-in-Ok-clause-tells g c = λ told s holds bytes carries kind.

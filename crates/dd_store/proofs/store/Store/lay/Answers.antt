@@ -61,7 +61,7 @@ invariant_of-self-in-FlashRead g c =
     )
 
 pub returns-in-Ok-clause-serves : goal.returns-in-Ok-clause-serves
-returns-in-Ok-clause-serves g c = λ told room was_it s kept.
+returns-in-Ok-clause-serves g c = λ told basis was_it s kept.
     let i = c.self.inside in
     let was : StoreView = store_of i.up i.journal (g.L.Lists.listing i.lists) i.count i.pending.items i.slots.uses i.laid.items in
     let is : IsStore was = c.self.invariant.7 (ap (λ (v : StoreOf g.row.F.Denot). v.store.is_up) c.self.view_is ∙ c.requires.call.up) in
@@ -69,16 +69,16 @@ returns-in-Ok-clause-serves g c = λ told room was_it s kept.
     let found : a_row c.args.address was.table.a ≡ Some c.in-Some.row = sym c.look.ensures ∙ c.in-Some.is in
     let world = g.R.Rig.world c.args.rig.now in
     let print = g.F.Fingerprint.printed c.args.self.now.print in
-    let its : Kept room print was world was_it s = subst (λ (v : StoreOf g.row.F.Denot). Kept room print v.store world was_it s) (sym c.self.view_is) kept in
-    let one : Kept room print was world s s = one_state room print was world (g.met.R.Rig.shows_image c.args.rig.now Flash told) (g.met.R.Rig.shows_image c.args.rig.now Disk told) was_it s is its may.none in
+    let its : Kept basis print was world was_it s = subst (λ (v : StoreOf g.row.F.Denot). Kept basis print v.store world was_it s) (sym c.self.view_is) kept in
+    let one : Kept basis print was world s s = one_state basis print was world (g.met.R.Rig.shows_image c.args.rig.now Flash told) (g.met.R.Rig.shows_image c.args.rig.now Disk told) was_it s is its may.none in
     let row = row_may was is c.args.address c.in-Some.row found may in
-    lay_serves room print (g.R.Rig.world c.lay_row.new.rig) was_it s (g.R.Rig.clock c.args.rig.now) (g.R.Rig.clock c.lay_row.new.rig)
-    (c.lay_row.ensures.crash told room print was s c.self.invariant.0 is row one) tt (record was { laid = c.push_reserved.new.self.items })
-    (subst (λ (ns : List ℕ). Kept room print (record was { laid = ns }) (g.R.Rig.world c.lay_row.new.rig) s s) (sym c.push_reserved.ensures.items)
-    (subst (λ n. Kept room print (laid_store n was) (g.R.Rig.world c.lay_row.new.rig) s s) (row_at was is c.args.address c.in-Some.row found) (c.in-Ok.ensures.laid told room print was s c.self.invariant.0 is row one)))
+    lay_serves basis print (g.R.Rig.world c.lay_row.new.rig) was_it s (g.R.Rig.clock c.args.rig.now) (g.R.Rig.clock c.lay_row.new.rig)
+    (c.lay_row.ensures.crash told basis print was s c.self.invariant.0 is row one) tt (record was { laid = c.push_reserved.new.self.items })
+    (subst (λ (ns : List ℕ). Kept basis print (record was { laid = ns }) (g.R.Rig.world c.lay_row.new.rig) s s) (sym c.push_reserved.ensures.items)
+    (subst (λ n. Kept basis print (laid_store n was) (g.R.Rig.world c.lay_row.new.rig) s s) (row_at was is c.args.address c.in-Some.row found) (c.in-Ok.ensures.laid told basis print was s c.self.invariant.0 is row one)))
 
 pub returns-in-FlashRead-clause-serves : goal.returns-in-FlashRead-clause-serves
-returns-in-FlashRead-clause-serves g c = λ told room was_it s kept.
+returns-in-FlashRead-clause-serves g c = λ told basis was_it s kept.
     let i = c.self.inside in
     let was : StoreView = store_of i.up i.journal (g.L.Lists.listing i.lists) i.count i.pending.items i.slots.uses i.laid.items in
     let is : IsStore was = c.self.invariant.7 (ap (λ (v : StoreOf g.row.F.Denot). v.store.is_up) c.self.view_is ∙ c.requires.call.up) in
@@ -86,16 +86,16 @@ returns-in-FlashRead-clause-serves g c = λ told room was_it s kept.
     let found : a_row c.args.address was.table.a ≡ Some c.in-Some.row = sym c.look.ensures ∙ c.in-Some.is in
     let world = g.R.Rig.world c.args.rig.now in
     let print = g.F.Fingerprint.printed c.args.self.now.print in
-    let its : Kept room print was world was_it s = subst (λ (v : StoreOf g.row.F.Denot). Kept room print v.store world was_it s) (sym c.self.view_is) kept in
-    let one : Kept room print was world s s = one_state room print was world (g.met.R.Rig.shows_image c.args.rig.now Flash told) (g.met.R.Rig.shows_image c.args.rig.now Disk told) was_it s is its may.none in
+    let its : Kept basis print was world was_it s = subst (λ (v : StoreOf g.row.F.Denot). Kept basis print v.store world was_it s) (sym c.self.view_is) kept in
+    let one : Kept basis print was world s s = one_state basis print was world (g.met.R.Rig.shows_image c.args.rig.now Flash told) (g.met.R.Rig.shows_image c.args.rig.now Disk told) was_it s is its may.none in
     let row = row_may was is c.args.address c.in-Some.row found may in
-    read_fails room print (g.R.Rig.world c.lay_row.new.rig) was_it s (g.R.Rig.clock c.args.rig.now) (g.R.Rig.clock c.lay_row.new.rig)
-    (c.lay_row.ensures.crash told room print was s c.self.invariant.0 is row one) c.in-Err.fault c.in-FlashRead.is (record was { laid = c.clear.new.self.items })
-    (subst (λ (ns : List ℕ). Kept room print (record was { laid = ns }) (g.R.Rig.world c.lay_row.new.rig) s s) (sym c.clear.ensures.items)
-    (kept_unlaid room print was (g.R.Rig.world c.lay_row.new.rig) s s (c.lay_row.ensures.kept told room print was s c.self.invariant.0 is row one)))
+    read_fails basis print (g.R.Rig.world c.lay_row.new.rig) was_it s (g.R.Rig.clock c.args.rig.now) (g.R.Rig.clock c.lay_row.new.rig)
+    (c.lay_row.ensures.crash told basis print was s c.self.invariant.0 is row one) c.in-Err.fault c.in-FlashRead.is (record was { laid = c.clear.new.self.items })
+    (subst (λ (ns : List ℕ). Kept basis print (record was { laid = ns }) (g.R.Rig.world c.lay_row.new.rig) s s) (sym c.clear.ensures.items)
+    (kept_unlaid basis print was (g.R.Rig.world c.lay_row.new.rig) s s (c.lay_row.ensures.kept told basis print was s c.self.invariant.0 is row one)))
 
 pub returns-in-DiskWrite-clause-serves : goal.returns-in-DiskWrite-clause-serves
-returns-in-DiskWrite-clause-serves g c = λ told room was_it s kept.
+returns-in-DiskWrite-clause-serves g c = λ told basis was_it s kept.
     let i = c.self.inside in
     let was : StoreView = store_of i.up i.journal (g.L.Lists.listing i.lists) i.count i.pending.items i.slots.uses i.laid.items in
     let is : IsStore was = c.self.invariant.7 (ap (λ (v : StoreOf g.row.F.Denot). v.store.is_up) c.self.view_is ∙ c.requires.call.up) in
@@ -103,11 +103,11 @@ returns-in-DiskWrite-clause-serves g c = λ told room was_it s kept.
     let found : a_row c.args.address was.table.a ≡ Some c.in-Some.row = sym c.look.ensures ∙ c.in-Some.is in
     let world = g.R.Rig.world c.args.rig.now in
     let print = g.F.Fingerprint.printed c.args.self.now.print in
-    let its : Kept room print was world was_it s = subst (λ (v : StoreOf g.row.F.Denot). Kept room print v.store world was_it s) (sym c.self.view_is) kept in
-    let one : Kept room print was world s s = one_state room print was world (g.met.R.Rig.shows_image c.args.rig.now Flash told) (g.met.R.Rig.shows_image c.args.rig.now Disk told) was_it s is its may.none in
+    let its : Kept basis print was world was_it s = subst (λ (v : StoreOf g.row.F.Denot). Kept basis print v.store world was_it s) (sym c.self.view_is) kept in
+    let one : Kept basis print was world s s = one_state basis print was world (g.met.R.Rig.shows_image c.args.rig.now Flash told) (g.met.R.Rig.shows_image c.args.rig.now Disk told) was_it s is its may.none in
     let row = row_may was is c.args.address c.in-Some.row found may in
-    write_fails room print (g.R.Rig.world c.lay_row.new.rig) was_it s (g.R.Rig.clock c.args.rig.now) (g.R.Rig.clock c.lay_row.new.rig)
-    (c.lay_row.ensures.crash told room print was s c.self.invariant.0 is row one) c.in-Err.fault c.in-DiskWrite.is was (record was { is_up = false }) (c.lay_row.ensures.kept told room print was s c.self.invariant.0 is row one)
+    write_fails basis print (g.R.Rig.world c.lay_row.new.rig) was_it s (g.R.Rig.clock c.args.rig.now) (g.R.Rig.clock c.lay_row.new.rig)
+    (c.lay_row.ensures.crash told basis print was s c.self.invariant.0 is row one) c.in-Err.fault c.in-DiskWrite.is was (record was { is_up = false }) (c.lay_row.ensures.kept told basis print was s c.self.invariant.0 is row one)
 
 pub returns-in-Ok-clause-holds : goal.returns-in-Ok-clause-holds
 returns-in-Ok-clause-holds g c = λ told s holds.

@@ -78,7 +78,7 @@ returns-in-Ok-clause-some g c =
     gathered_some lists referrers (g.met.L.Lists.kept i.lists) (λ slot. g.met.L.Lists.walked i.lists slot) c.args.along i.geo.group c.gather.new.into.items c.gather.ensures.first was (omega (arith, i.geo.group_least)) refl refl has
 
 pub returns-in-Ok-clause-serves : goal.returns-in-Ok-clause-serves
-returns-in-Ok-clause-serves g c = λ told room was_it s kept.
+returns-in-Ok-clause-serves g c = λ told basis was_it s kept.
     let i = c.self.inside in
     let lists = g.L.Lists.listing i.lists in
     let referrers = g.L.Lists.referrers i.lists in
@@ -90,16 +90,16 @@ returns-in-Ok-clause-serves g c = λ told room was_it s kept.
     let may : MayLayAll (unlaid was) c.as_slice.result.now = gathered_may lists referrers (g.met.L.Lists.kept i.lists) (λ slot. g.met.L.Lists.walked i.lists slot) c.args.along i.geo.group c.as_slice.result.now first was refl none most in
     let world = g.R.Rig.world c.args.rig.now in
     let print = g.F.Fingerprint.printed c.args.self.now.print in
-    let its : Kept room print was world was_it s = subst (λ (v : StoreOf g.row.F.Denot). Kept room print v.store world was_it s) (sym c.self.view_is) kept in
-    let one : Kept room print (unlaid was) world s s =
-    kept_unlaid room print was world s s (one_state room print was world (g.met.R.Rig.shows_image c.args.rig.now Flash told) (g.met.R.Rig.shows_image c.args.rig.now Disk told) was_it s is its none) in
-    lay_serves room print (g.R.Rig.world c.lay_all.new.rig) was_it s (g.R.Rig.clock c.args.rig.now) (g.R.Rig.clock c.lay_all.new.rig)
-    (c.lay_all.ensures.crash told room print (unlaid was) s c.self.invariant.0 refl (unlaid_is was is) may one) tt (record was { laid = c.gather.new.into.items })
-    (subst (λ (ns : List ℕ). Kept room print (record was { laid = ns }) (g.R.Rig.world c.lay_all.new.rig) s s) c.as_slice.ensures.value
-    (c.in-Ok.ensures.laid told room print (unlaid was) s c.self.invariant.0 refl (unlaid_is was is) may one))
+    let its : Kept basis print was world was_it s = subst (λ (v : StoreOf g.row.F.Denot). Kept basis print v.store world was_it s) (sym c.self.view_is) kept in
+    let one : Kept basis print (unlaid was) world s s =
+    kept_unlaid basis print was world s s (one_state basis print was world (g.met.R.Rig.shows_image c.args.rig.now Flash told) (g.met.R.Rig.shows_image c.args.rig.now Disk told) was_it s is its none) in
+    lay_serves basis print (g.R.Rig.world c.lay_all.new.rig) was_it s (g.R.Rig.clock c.args.rig.now) (g.R.Rig.clock c.lay_all.new.rig)
+    (c.lay_all.ensures.crash told basis print (unlaid was) s c.self.invariant.0 refl (unlaid_is was is) may one) tt (record was { laid = c.gather.new.into.items })
+    (subst (λ (ns : List ℕ). Kept basis print (record was { laid = ns }) (g.R.Rig.world c.lay_all.new.rig) s s) c.as_slice.ensures.value
+    (c.in-Ok.ensures.laid told basis print (unlaid was) s c.self.invariant.0 refl (unlaid_is was is) may one))
 
 pub returns-in-FlashRead-clause-serves : goal.returns-in-FlashRead-clause-serves
-returns-in-FlashRead-clause-serves g c = λ told room was_it s kept.
+returns-in-FlashRead-clause-serves g c = λ told basis was_it s kept.
     let i = c.self.inside in
     let lists = g.L.Lists.listing i.lists in
     let referrers = g.L.Lists.referrers i.lists in
@@ -111,16 +111,16 @@ returns-in-FlashRead-clause-serves g c = λ told room was_it s kept.
     let may : MayLayAll (unlaid was) c.as_slice.result.now = gathered_may lists referrers (g.met.L.Lists.kept i.lists) (λ slot. g.met.L.Lists.walked i.lists slot) c.args.along i.geo.group c.as_slice.result.now first was refl none most in
     let world = g.R.Rig.world c.args.rig.now in
     let print = g.F.Fingerprint.printed c.args.self.now.print in
-    let its : Kept room print was world was_it s = subst (λ (v : StoreOf g.row.F.Denot). Kept room print v.store world was_it s) (sym c.self.view_is) kept in
-    let one : Kept room print (unlaid was) world s s =
-    kept_unlaid room print was world s s (one_state room print was world (g.met.R.Rig.shows_image c.args.rig.now Flash told) (g.met.R.Rig.shows_image c.args.rig.now Disk told) was_it s is its none) in
-    read_fails room print (g.R.Rig.world c.lay_all.new.rig) was_it s (g.R.Rig.clock c.args.rig.now) (g.R.Rig.clock c.lay_all.new.rig)
-    (c.lay_all.ensures.crash told room print (unlaid was) s c.self.invariant.0 refl (unlaid_is was is) may one) c.in-Err.fault c.in-FlashRead.is (record was { laid = c.clear-in-Err.new.self.items })
-    (subst (λ (ns : List ℕ). Kept room print (record was { laid = ns }) (g.R.Rig.world c.lay_all.new.rig) s s) (sym c.clear-in-Err.ensures.items)
-    (c.lay_all.ensures.kept told room print (unlaid was) s c.self.invariant.0 refl (unlaid_is was is) may one))
+    let its : Kept basis print was world was_it s = subst (λ (v : StoreOf g.row.F.Denot). Kept basis print v.store world was_it s) (sym c.self.view_is) kept in
+    let one : Kept basis print (unlaid was) world s s =
+    kept_unlaid basis print was world s s (one_state basis print was world (g.met.R.Rig.shows_image c.args.rig.now Flash told) (g.met.R.Rig.shows_image c.args.rig.now Disk told) was_it s is its none) in
+    read_fails basis print (g.R.Rig.world c.lay_all.new.rig) was_it s (g.R.Rig.clock c.args.rig.now) (g.R.Rig.clock c.lay_all.new.rig)
+    (c.lay_all.ensures.crash told basis print (unlaid was) s c.self.invariant.0 refl (unlaid_is was is) may one) c.in-Err.fault c.in-FlashRead.is (record was { laid = c.clear-in-Err.new.self.items })
+    (subst (λ (ns : List ℕ). Kept basis print (record was { laid = ns }) (g.R.Rig.world c.lay_all.new.rig) s s) (sym c.clear-in-Err.ensures.items)
+    (c.lay_all.ensures.kept told basis print (unlaid was) s c.self.invariant.0 refl (unlaid_is was is) may one))
 
 pub returns-in-DiskWrite-clause-serves : goal.returns-in-DiskWrite-clause-serves
-returns-in-DiskWrite-clause-serves g c = λ told room was_it s kept.
+returns-in-DiskWrite-clause-serves g c = λ told basis was_it s kept.
     let i = c.self.inside in
     let lists = g.L.Lists.listing i.lists in
     let referrers = g.L.Lists.referrers i.lists in
@@ -132,12 +132,12 @@ returns-in-DiskWrite-clause-serves g c = λ told room was_it s kept.
     let may : MayLayAll (unlaid was) c.as_slice.result.now = gathered_may lists referrers (g.met.L.Lists.kept i.lists) (λ slot. g.met.L.Lists.walked i.lists slot) c.args.along i.geo.group c.as_slice.result.now first was refl none most in
     let world = g.R.Rig.world c.args.rig.now in
     let print = g.F.Fingerprint.printed c.args.self.now.print in
-    let its : Kept room print was world was_it s = subst (λ (v : StoreOf g.row.F.Denot). Kept room print v.store world was_it s) (sym c.self.view_is) kept in
-    let one : Kept room print (unlaid was) world s s =
-    kept_unlaid room print was world s s (one_state room print was world (g.met.R.Rig.shows_image c.args.rig.now Flash told) (g.met.R.Rig.shows_image c.args.rig.now Disk told) was_it s is its none) in
-    write_fails room print (g.R.Rig.world c.lay_all.new.rig) was_it s (g.R.Rig.clock c.args.rig.now) (g.R.Rig.clock c.lay_all.new.rig)
-    (c.lay_all.ensures.crash told room print (unlaid was) s c.self.invariant.0 refl (unlaid_is was is) may one) c.in-Err.fault c.in-DiskWrite.is (unlaid was) (record was { is_up = false; laid = c.clear-in-Err.new.self.items })
-    (c.lay_all.ensures.kept told room print (unlaid was) s c.self.invariant.0 refl (unlaid_is was is) may one)
+    let its : Kept basis print was world was_it s = subst (λ (v : StoreOf g.row.F.Denot). Kept basis print v.store world was_it s) (sym c.self.view_is) kept in
+    let one : Kept basis print (unlaid was) world s s =
+    kept_unlaid basis print was world s s (one_state basis print was world (g.met.R.Rig.shows_image c.args.rig.now Flash told) (g.met.R.Rig.shows_image c.args.rig.now Disk told) was_it s is its none) in
+    write_fails basis print (g.R.Rig.world c.lay_all.new.rig) was_it s (g.R.Rig.clock c.args.rig.now) (g.R.Rig.clock c.lay_all.new.rig)
+    (c.lay_all.ensures.crash told basis print (unlaid was) s c.self.invariant.0 refl (unlaid_is was is) may one) c.in-Err.fault c.in-DiskWrite.is (unlaid was) (record was { is_up = false; laid = c.clear-in-Err.new.self.items })
+    (c.lay_all.ensures.kept told basis print (unlaid was) s c.self.invariant.0 refl (unlaid_is was is) may one)
 
 pub returns-in-Ok-clause-holds : goal.returns-in-Ok-clause-holds
 returns-in-Ok-clause-holds g c = λ told s holds.

@@ -54,13 +54,13 @@ pub returns-in-Some-clause-failed : goal.returns-in-Some-clause-failed
 returns-in-Some-clause-failed g c = cleans_failed c.rounds.result c.args.self.now.store c.clean_out.new.self.store c.rounds.new.self.store c.in-Ok.ensures.rows c.rounds.ensures.failed
 
 pub returns-in-Some-clause-serves : goal.returns-in-Some-clause-serves
-returns-in-Some-clause-serves g c = λ told room was s kept.
+returns-in-Some-clause-serves g c = λ told basis was s kept.
     let print = g.F.Fingerprint.printed in
     let world = g.R.Rig.world in
     let clock = g.R.Rig.clock in
-    serves_next room (print c.args.self.now.print) (print c.clean_out.new.self.print) (ap print c.clean_out.ensures.rests.print) (clock c.args.rig.now) (clock c.clean_out.new.rig) (clock c.rounds.new.rig)
+    serves_next basis (print c.args.self.now.print) (print c.clean_out.new.self.print) (ap print c.clean_out.ensures.rests.print) (clock c.args.rig.now) (clock c.clean_out.new.rig) (clock c.rounds.new.rig)
     c.clean_out.new.self.store c.rounds.new.self.store (world c.clean_out.new.rig) (world c.rounds.new.rig) was s s tt c.rounds.result
-    (c.in-Ok.ensures.serves told room was s kept) (λ k held. c.rounds.ensures.serves told room k s held)
+    (c.in-Ok.ensures.serves told basis was s kept) (λ k held. c.rounds.ensures.serves told basis k s held)
 
 pub returns-in-Some-clause-idle : goal.returns-in-Some-clause-idle
 returns-in-Some-clause-idle g c = λ room.

@@ -61,7 +61,7 @@ invariant_of-self-in-Ok g c =
     )
 
 pub returns-in-Err-clause-serves : goal.returns-in-Err-clause-serves
-returns-in-Err-clause-serves g c = λ told room was_it s kept.
+returns-in-Err-clause-serves g c = λ told basis was_it s kept.
     let i = c.self.inside in
     let was : StoreView = store_of i.up i.journal (g.L.Lists.listing i.lists) i.count i.pending.items i.slots.uses i.laid.items in
     let is : IsStore was = c.self.invariant.7 (ap (λ (v : StoreOf g.row.F.Denot). v.store.is_up) c.self.view_is ∙ c.requires.call.up) in
@@ -69,15 +69,15 @@ returns-in-Err-clause-serves g c = λ told room was_it s kept.
     let none : was.pending ≡ [] = pending_none was is some in
     let world = g.R.Rig.world c.args.rig.now in
     let print = g.F.Fingerprint.printed c.args.self.now.print in
-    let its : Kept room print was world was_it s = subst (λ (v : StoreOf g.row.F.Denot). Kept room print v.store world was_it s) (sym c.self.view_is) kept in
-    let now = c.in-Err.ensures.kept told room print was was_it s its in
+    let its : Kept basis print was world was_it s = subst (λ (v : StoreOf g.row.F.Denot). Kept basis print v.store world was_it s) (sym c.self.view_is) kept in
+    let now = c.in-Err.ensures.kept told basis print was was_it s its in
     record {
       crash = widens (c.sync_laid.ensures.time told) (λ o never. absurd never);
       leaves = λ flash_bytes disk_bytes flash_image disk_image. inl (now.stands flash_bytes disk_bytes flash_image disk_image);
     }
 
 pub returns-in-Ok-clause-serves : goal.returns-in-Ok-clause-serves
-returns-in-Ok-clause-serves g c = λ told room was_it s kept.
+returns-in-Ok-clause-serves g c = λ told basis was_it s kept.
     let i = c.self.inside in
     let was : StoreView = store_of i.up i.journal (g.L.Lists.listing i.lists) i.count i.pending.items i.slots.uses i.laid.items in
     let is : IsStore was = c.self.invariant.7 (ap (λ (v : StoreOf g.row.F.Denot). v.store.is_up) c.self.view_is ∙ c.requires.call.up) in
@@ -90,11 +90,11 @@ returns-in-Ok-clause-serves g c = λ told room was_it s kept.
     c.clear.ensures.items in
     let world = g.R.Rig.world c.args.rig.now in
     let print = g.F.Fingerprint.printed c.args.self.now.print in
-    let its : Kept room print was world was_it s = subst (λ (v : StoreOf g.row.F.Denot). Kept room print v.store world was_it s) (sym c.self.view_is) kept in
-    let one : Kept room print was world s s = one_state room print was world (g.met.R.Rig.shows_image c.args.rig.now Flash told) (g.met.R.Rig.shows_image c.args.rig.now Disk told) was_it s is its none in
+    let its : Kept basis print was world was_it s = subst (λ (v : StoreOf g.row.F.Denot). Kept basis print v.store world was_it s) (sym c.self.view_is) kept in
+    let one : Kept basis print was world s s = one_state basis print was world (g.met.R.Rig.shows_image c.args.rig.now Flash told) (g.met.R.Rig.shows_image c.args.rig.now Disk told) was_it s is its none in
     record {
       crash = widens (c.sync_laid.ensures.time told) (λ o never. absurd never);
-      leaves = record { committed = s; either = inr refl; kept = subst (λ (v : StoreView). Kept room print v (g.R.Rig.world c.sync_laid.new.rig) s s) (sym same) (c.in-Ok.ensures.marked told room print was s is none one) };
+      leaves = record { committed = s; either = inr refl; kept = subst (λ (v : StoreView). Kept basis print v (g.R.Rig.world c.sync_laid.new.rig) s s) (sym same) (c.in-Ok.ensures.marked told basis print was s is none one) };
     }
 
 pub returns-in-Ok-clause-fewer : goal.returns-in-Ok-clause-fewer

@@ -4,7 +4,7 @@ use Rattle.dd_layout.specs.Layout.{disk_need}
 use Rattle.dd_rig.specs.declared.device.Dev.TheVariants.{Disk}
 use Rattle.dd_journal.specs.Sitting.{JournalView}
 use Rattle.dd_store.specs.Keeping.{StoreView, IsStore, Kept}
-use Rattle.dd_store.specs.Meaning.{Means}
+use Rattle.dd_store.specs.Meaning.{HasBehind, Means}
 use Rattle.dd_store.specs.Saving.{AreUsesOf}
 use Rattle.dd_store.specs.Serving.{store_of}
 use Rattle.dd_store.proofs.Opening.{kept_new, new_is, made_of, uses_of, slots_of}
@@ -30,7 +30,7 @@ invariant_of-result-2 g c =
     )
 
 pub returns-clause-kept : goal.returns-clause-kept
-returns-clause-kept g c = λ told room s flash disk large sits pace means.
+returns-clause-kept g c = λ told basis s flash disk large sits pace behind means.
     let lists = g.L.Lists.listing c.args.lists in
     let world = g.R.Rig.world c.args.rig.now in
     let print = g.F.Fingerprint.printed c.args.print in
@@ -40,7 +40,8 @@ returns-clause-kept g c = λ told room s flash disk large sits pace means.
     let is = new_is c.args.geo c.args.journal lists c.args.count c.in_ok-slots.slots.uses (g.met.L.Lists.kept c.args.lists) c.requires.rows c.requires.up c.requires.geometry c.requires.version c.requires.count uses in
     let sized : disk_need c.args.journal.geo ≤ length world.disk.stable =
     subst (λ (m : ℕ). m ≤ length world.disk.stable) (ap disk_need (sym c.requires.geometry)) (omega (arith, large, g.met.R.Rig.has_size c.args.rig.now Disk told)) in
-    made_of (λ (v : StoreView). Kept room print v world s s) c.args.journal _ lists c.args.count c.in_ok-slots.slots.uses c.in_ok-with_capacity.field-0.items c.in_ok-with_capacity-2.field-0.items
+    made_of (λ (v : StoreView). Kept basis print v world s s) c.args.journal _ lists c.args.count c.in_ok-slots.slots.uses c.in_ok-with_capacity.field-0.items c.in_ok-with_capacity-2.field-0.items
     c.journal.view_is c.in_ok-with_capacity.ensures.items c.in_ok-with_capacity-2.ensures.items
-    (kept_new room print (store_of true c.args.journal lists c.args.count [] c.in_ok-slots.slots.uses []) world s refl is refl refl flash disk sized sits pace
+    (kept_new basis print (store_of true c.args.journal lists c.args.count [] c.in_ok-slots.slots.uses []) world s refl is refl refl flash disk sized sits pace
+    (subst (λ (geo : Geometry). HasBehind basis geo world.flash.shown world.disk.shown) (sym c.requires.geometry) behind)
     (subst (λ (geo : Geometry). Means print geo world.flash.shown world.disk.shown lists.table c.args.count s) (sym c.requires.geometry) means))

@@ -22,16 +22,16 @@ returns-then-must_commit-clause-ready g c =
     ready_by c.commit.result middle c.commit.new.self.store c.args.address c.args.want is c.in-Ok.ensures.room c.commit.ensures.store c.commit.ensures.geometry
 
 pub returns-then-must_commit-clause-serves : goal.returns-then-must_commit-clause-serves
-returns-then-must_commit-clause-serves g c = λ told room was s kept.
+returns-then-must_commit-clause-serves g c = λ told basis was s kept.
     let print = g.F.Fingerprint.printed c.args.self.now.print in
     let first = g.R.Rig.clock c.args.rig.now in
     let second = g.R.Rig.clock c.make_room.new.rig in
     let last = g.R.Rig.clock c.commit.new.rig in
-    let roomy = c.in-Ok.ensures.serves told room was s kept in
-    serves_then room print first second last c.make_room.new.self.store c.commit.new.self.store (g.R.Rig.world c.make_room.new.rig) (g.R.Rig.world c.commit.new.rig) was s s c.commit.result roomy.crash roomy.leaves
+    let roomy = c.in-Ok.ensures.serves told basis was s kept in
+    serves_then basis print first second last c.make_room.new.self.store c.commit.new.self.store (g.R.Rig.world c.make_room.new.rig) (g.R.Rig.world c.commit.new.rig) was s s c.commit.result roomy.crash roomy.leaves
     (λ k held.
-    subst (λ f. Serves room (g.F.Fingerprint.printed f) c.commit.result second last c.commit.new.self.store (g.R.Rig.world c.commit.new.rig) k s s) c.make_room.ensures.rests.print
-    (c.commit.ensures.serves told room k s (subst (λ f. Kept room (g.F.Fingerprint.printed f) c.make_room.new.self.store (g.R.Rig.world c.make_room.new.rig) k s) (sym c.make_room.ensures.rests.print) held)))
+    subst (λ f. Serves basis (g.F.Fingerprint.printed f) c.commit.result second last c.commit.new.self.store (g.R.Rig.world c.commit.new.rig) k s s) c.make_room.ensures.rests.print
+    (c.commit.ensures.serves told basis k s (subst (λ f. Kept basis (g.F.Fingerprint.printed f) c.make_room.new.self.store (g.R.Rig.world c.make_room.new.rig) k s) (sym c.make_room.ensures.rests.print) held)))
 
 pub returns-then-must_commit-clause-own : goal.returns-then-must_commit-clause-own
 returns-then-must_commit-clause-own g c =

@@ -48,44 +48,44 @@ join-requires-clause-touches g c =
     (hit_touch (listing_in c.args.self.now.store) c.args.address c.in-Slot.slot c.link.ensures.listing linked)
 
 pub returns-in-Err-clause-serves : goal.returns-in-Err-clause-serves
-returns-in-Err-clause-serves g c = λ told room was s kept.
+returns-in-Err-clause-serves g c = λ told basis was s kept.
     let print = g.F.Fingerprint.printed c.args.self.now.print in
-    serves_failed room Done print c.in-Err.fault (inr c.in-Err.ensures.fault) (g.R.Rig.clock c.args.rig.now) (g.R.Rig.clock c.read_disk.new.rig) c.read_disk.new.self.store (g.R.Rig.world c.read_disk.new.rig) was s _ (c.read_disk.ensures.time told)
-    (kept_behind room print c.args.self.now.store c.read_disk.new.self.store (g.R.Rig.world c.args.rig.now) (g.R.Rig.world c.read_disk.new.rig) was s c.read_disk.ensures.store (c.read_disk.ensures.world told) kept)
+    serves_failed basis Done print c.in-Err.fault (inr c.in-Err.ensures.fault) (g.R.Rig.clock c.args.rig.now) (g.R.Rig.clock c.read_disk.new.rig) c.read_disk.new.self.store (g.R.Rig.world c.read_disk.new.rig) was s _ (c.read_disk.ensures.time told)
+    (kept_behind basis print c.args.self.now.store c.read_disk.new.self.store (g.R.Rig.world c.args.rig.now) (g.R.Rig.world c.read_disk.new.rig) was s c.read_disk.ensures.store (c.read_disk.ensures.world told) kept)
 
 pub returns-in-Err-read_slot-clause-serves : goal.returns-in-Err-read_slot-clause-serves
-returns-in-Err-read_slot-clause-serves g c = λ told room was s kept.
+returns-in-Err-read_slot-clause-serves g c = λ told basis was s kept.
     let print = g.F.Fingerprint.printed c.args.self.now.print in
-    serves_failed room Done print c.in-Err-read_slot.fault (inl c.in-Err-read_slot.ensures.fault) (g.R.Rig.clock c.args.rig.now) (g.R.Rig.clock c.read_slot.new.rig) c.read_slot.new.self.store (g.R.Rig.world c.read_slot.new.rig) was s _ (c.read_slot.ensures.time told)
-    (kept_behind room print c.args.self.now.store c.read_slot.new.self.store (g.R.Rig.world c.args.rig.now) (g.R.Rig.world c.read_slot.new.rig) was s c.read_slot.ensures.store (c.read_slot.ensures.world told) kept)
+    serves_failed basis Done print c.in-Err-read_slot.fault (inl c.in-Err-read_slot.ensures.fault) (g.R.Rig.clock c.args.rig.now) (g.R.Rig.clock c.read_slot.new.rig) c.read_slot.new.self.store (g.R.Rig.world c.read_slot.new.rig) was s _ (c.read_slot.ensures.time told)
+    (kept_behind basis print c.args.self.now.store c.read_slot.new.self.store (g.R.Rig.world c.args.rig.now) (g.R.Rig.world c.read_slot.new.rig) was s c.read_slot.ensures.store (c.read_slot.ensures.world told) kept)
 
 pub returns-in-Ok-clause-serves : goal.returns-in-Ok-clause-serves
-returns-in-Ok-clause-serves g c = λ told room was s kept.
+returns-in-Ok-clause-serves g c = λ told basis was s kept.
     let print = g.F.Fingerprint.printed c.args.self.now.print in
     let first = g.R.Rig.clock c.args.rig.now in
     let second = g.R.Rig.clock c.read_disk.new.rig in
     let before = g.R.Rig.world c.args.rig.now in
     let middle = g.R.Rig.world c.read_disk.new.rig in
-    let held : Kept room print c.read_disk.new.self.store middle was s = kept_behind room print c.args.self.now.store c.read_disk.new.self.store before middle was s c.read_disk.ensures.store (c.read_disk.ensures.world told) kept in
-    let held_too = subst (λ f. Kept room (g.F.Fingerprint.printed f) c.read_disk.new.self.store middle was s) (sym c.read_disk.ensures.print) held in
+    let held : Kept basis print c.read_disk.new.self.store middle was s = kept_behind basis print c.args.self.now.store c.read_disk.new.self.store before middle was s c.read_disk.ensures.store (c.read_disk.ensures.world told) kept in
+    let held_too = subst (λ f. Kept basis (g.F.Fingerprint.printed f) c.read_disk.new.self.store middle was s) (sym c.read_disk.ensures.print) held in
     let lost : link_at c.args.address c.args.self.now.store.table.a ≡ Lost = sym c.link.ensures.link ∙ c.in-Lost.is in
     let clean : is_dirty_at c.args.address c.args.self.now.store.table.a ≡ false = lost_clean c.args.address c.args.self.now.store.table.a c.link.ensures.listing.linked lost in
     let has : c.read_disk.new.into ≡ content s.array c.args.address = c.in-Ok.ensures.shows told ∙ sym (kept.holds.means.clean c.args.address c.requires.below clean) in
-    subst (λ (v : StoreView). Serves room print c.bring.result first (g.R.Rig.clock c.bring.new.rig) c.bring.new.self.store (g.R.Rig.world c.bring.new.rig) was s (reference (sizes_of v.journal.geo) s c.args.address (content s.array c.args.address))) c.read_disk.ensures.store
-    (serves_behind room print c.bring.result (c.read_disk.ensures.time told)
-    (subst (λ f. Serves room (g.F.Fingerprint.printed f) c.bring.result second (g.R.Rig.clock c.bring.new.rig) c.bring.new.self.store (g.R.Rig.world c.bring.new.rig) was s (reference (sizes_of c.read_disk.new.self.store.journal.geo) s c.args.address (content s.array c.args.address))) c.read_disk.ensures.print
-    (subst (λ (x : List ℕ). Serves room (g.F.Fingerprint.printed c.read_disk.new.self.print) c.bring.result second (g.R.Rig.clock c.bring.new.rig) c.bring.new.self.store (g.R.Rig.world c.bring.new.rig) was s (reference (sizes_of c.read_disk.new.self.store.journal.geo) s c.args.address x)) has
-    (c.bring.ensures.serves told room was s held_too (λ clean_read. has)))))
+    subst (λ (v : StoreView). Serves basis print c.bring.result first (g.R.Rig.clock c.bring.new.rig) c.bring.new.self.store (g.R.Rig.world c.bring.new.rig) was s (reference (sizes_of v.journal.geo) s c.args.address (content s.array c.args.address))) c.read_disk.ensures.store
+    (serves_behind basis print c.bring.result (c.read_disk.ensures.time told)
+    (subst (λ f. Serves basis (g.F.Fingerprint.printed f) c.bring.result second (g.R.Rig.clock c.bring.new.rig) c.bring.new.self.store (g.R.Rig.world c.bring.new.rig) was s (reference (sizes_of c.read_disk.new.self.store.journal.geo) s c.args.address (content s.array c.args.address))) c.read_disk.ensures.print
+    (subst (λ (x : List ℕ). Serves basis (g.F.Fingerprint.printed c.read_disk.new.self.print) c.bring.result second (g.R.Rig.clock c.bring.new.rig) c.bring.new.self.store (g.R.Rig.world c.bring.new.rig) was s (reference (sizes_of c.read_disk.new.self.store.journal.geo) s c.args.address x)) has
+    (c.bring.ensures.serves told basis was s held_too (λ clean_read. has)))))
 
 pub returns-in-Ok-read_slot-clause-serves : goal.returns-in-Ok-read_slot-clause-serves
-returns-in-Ok-read_slot-clause-serves g c = λ told room was s kept.
+returns-in-Ok-read_slot-clause-serves g c = λ told basis was s kept.
     let print = g.F.Fingerprint.printed c.args.self.now.print in
     let first = g.R.Rig.clock c.args.rig.now in
     let second = g.R.Rig.clock c.read_slot.new.rig in
     let before = g.R.Rig.world c.args.rig.now in
     let middle = g.R.Rig.world c.read_slot.new.rig in
-    let held : Kept room print c.read_slot.new.self.store middle was s = kept_behind room print c.args.self.now.store c.read_slot.new.self.store before middle was s c.read_slot.ensures.store (c.read_slot.ensures.world told) kept in
-    let held_too = subst (λ f. Kept room (g.F.Fingerprint.printed f) c.read_slot.new.self.store middle was s) (sym c.read_slot.ensures.print) held in
+    let held : Kept basis print c.read_slot.new.self.store middle was s = kept_behind basis print c.args.self.now.store c.read_slot.new.self.store before middle was s c.read_slot.ensures.store (c.read_slot.ensures.world told) kept in
+    let held_too = subst (λ f. Kept basis (g.F.Fingerprint.printed f) c.read_slot.new.self.store middle was s) (sym c.read_slot.ensures.print) held in
     let linked : link_at c.args.address c.args.self.now.store.table.a ≡ Slot c.in-Slot.slot = sym c.link.ensures.link ∙ c.in-Slot.is in
     let has : c.read_slot.new.into ≡ content s.array c.args.address = c.in-Ok-read_slot.ensures.shows told ∙ slot_linked print c.args.self.now.store before s kept.holds c.args.address c.requires.below c.in-Slot.slot linked in
     let below = subst (λ (v : StoreView). c.args.address < v.journal.geo.blocks) (sym c.read_slot.ensures.store) c.requires.below in
@@ -94,20 +94,20 @@ returns-in-Ok-read_slot-clause-serves g c = λ told room was s kept.
     let printed = g.F.Fingerprint.printed c.read_slot.new.self.print in
     let carries = carries_listed printed c.read_slot.new.self.store middle s held_too.holds c.args.address below (content s.array c.args.address) false (content_long printed c.read_slot.new.self.store middle s held_too.holds c.args.address below) (λ clean_read. refl)
     c.in-Slot.slot is_given (slot_linked printed c.read_slot.new.self.store middle s held_too.holds c.args.address below c.in-Slot.slot still) in
-    subst (λ (v : StoreView). Serves room print c.join.result first (g.R.Rig.clock c.join.new.rig) c.join.new.self.store (g.R.Rig.world c.join.new.rig) was s (reference (sizes_of v.journal.geo) s c.args.address (content s.array c.args.address))) c.read_slot.ensures.store
-    (serves_behind room print c.join.result (c.read_slot.ensures.time told)
-    (subst (λ f. Serves room (g.F.Fingerprint.printed f) c.join.result second (g.R.Rig.clock c.join.new.rig) c.join.new.self.store (g.R.Rig.world c.join.new.rig) was s (reference (sizes_of c.read_slot.new.self.store.journal.geo) s c.args.address (content s.array c.args.address))) c.read_slot.ensures.print
-    (c.join.ensures.serves told room was s held_too (content s.array c.args.address) carries)))
+    subst (λ (v : StoreView). Serves basis print c.join.result first (g.R.Rig.clock c.join.new.rig) c.join.new.self.store (g.R.Rig.world c.join.new.rig) was s (reference (sizes_of v.journal.geo) s c.args.address (content s.array c.args.address))) c.read_slot.ensures.store
+    (serves_behind basis print c.join.result (c.read_slot.ensures.time told)
+    (subst (λ f. Serves basis (g.F.Fingerprint.printed f) c.join.result second (g.R.Rig.clock c.join.new.rig) c.join.new.self.store (g.R.Rig.world c.join.new.rig) was s (reference (sizes_of c.read_slot.new.self.store.journal.geo) s c.args.address (content s.array c.args.address))) c.read_slot.ensures.print
+    (c.join.ensures.serves told basis was s held_too (content s.array c.args.address) carries)))
 
 pub returns-in-Zero-clause-serves : goal.returns-in-Zero-clause-serves
-returns-in-Zero-clause-serves g c = λ told room was s kept.
+returns-in-Zero-clause-serves g c = λ told basis was s kept.
     let print = g.F.Fingerprint.printed c.args.self.now.print in
     let before = g.R.Rig.world c.args.rig.now in
     let linked : link_at c.args.address c.args.self.now.store.table.a ≡ Zero = sym c.link.ensures.link ∙ c.in-Zero.is in
     let zeros = zero_linked print c.args.self.now.store before s kept.holds c.args.address c.requires.below linked in
     let long = content_long print c.args.self.now.store before s kept.holds c.args.address c.requires.below in
     let carries = carries_zeros print c.args.self.now.store before s kept.holds c.args.address c.requires.below (content s.array c.args.address) false long (λ clean_read. refl) zeros in
-    c.join-in-Zero.ensures.serves told room was s kept (content s.array c.args.address) carries
+    c.join-in-Zero.ensures.serves told basis was s kept (content s.array c.args.address) carries
 
 pub returns-in-Err-clause-holds : goal.returns-in-Err-clause-holds
 returns-in-Err-clause-holds g c = λ told s holds.

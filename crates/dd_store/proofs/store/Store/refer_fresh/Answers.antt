@@ -105,20 +105,20 @@ invariant_of-self-in-Some g c =
     )
 
 pub returns-in-Err-clause-serves : goal.returns-in-Err-clause-serves
-returns-in-Err-clause-serves g c = λ told room was_it s kept printed some unknown read.
+returns-in-Err-clause-serves g c = λ told basis was_it s kept printed some unknown read.
     let i = c.self.inside in
     let lists = g.L.Lists.listing i.lists in
     let was : StoreView = store_of i.up i.journal lists i.count i.pending.items i.slots.uses i.laid.items in
     let is : IsStore was = c.self.invariant.7 (ap (λ (v : StoreOf g.row.F.Denot). v.store.is_up) c.self.view_is ∙ c.requires.up) in
     let world = g.R.Rig.world c.place_block.new.rig in
     let print = g.F.Fingerprint.printed c.args.self.now.print in
-    let base : Kept room print was (g.R.Rig.world c.args.rig.now) was_it s = subst (λ (v : StoreOf g.row.F.Denot). Kept room print v.store (g.R.Rig.world c.args.rig.now) was_it s) (sym c.self.view_is) kept in
+    let base : Kept basis print was (g.R.Rig.world c.args.rig.now) was_it s = subst (λ (v : StoreOf g.row.F.Denot). Kept basis print v.store (g.R.Rig.world c.args.rig.now) was_it s) (sym c.self.view_is) kept in
     let has : HasSlots was i.slots = record { placed = subst (λ (geo : Geometry). AreSlotsOf geo i.slots) (sym c.self.invariant.0) c.self.invariant.4; same = refl } in
-    let held : Kept room print was world was_it s = c.place_block.ensures.kept told room print was was_it s has is base in
-    entered_failed room print (g.R.Rig.clock c.args.rig.now) (g.R.Rig.clock c.place_block.new.rig) was _ world was_it s _ (c.place_block.ensures.crash told room print was was_it s has is base) held
+    let held : Kept basis print was world was_it s = c.place_block.ensures.kept told basis print was was_it s has is base in
+    entered_failed basis print (g.R.Rig.clock c.args.rig.now) (g.R.Rig.clock c.place_block.new.rig) was _ world was_it s _ (c.place_block.ensures.crash told basis print was was_it s has is base) held
 
 pub returns-in-Some-clause-serves : goal.returns-in-Some-clause-serves
-returns-in-Some-clause-serves g c = λ told room was_it s kept printed some unknown read.
+returns-in-Some-clause-serves g c = λ told basis was_it s kept printed some unknown read.
     let i = c.self.inside in
     let lists = g.L.Lists.listing i.lists in
     let was : StoreView = store_of i.up i.journal lists i.count i.pending.items i.slots.uses i.laid.items in
@@ -139,19 +139,19 @@ returns-in-Some-clause-serves g c = λ told room was_it s kept printed some unkn
     (ap (λ (v : SlotsView). v.uses) c.refer.ensures.slots ∙ ap (λ (v : SlotsView). let_go (cut_of (touch_by c.args.address (given.Fresh (record { slot = c.in-Some.slot; fp = c.args.fp })) c.args.dirty lists) lists).drop v.uses) takes.1) c.clear.ensures.items in
     let world = g.R.Rig.world c.place_block.new.rig in
     let print = g.F.Fingerprint.printed c.args.self.now.print in
-    let base : Kept room print was (g.R.Rig.world c.args.rig.now) was_it s = subst (λ (v : StoreOf g.row.F.Denot). Kept room print v.store (g.R.Rig.world c.args.rig.now) was_it s) (sym c.self.view_is) kept in
+    let base : Kept basis print was (g.R.Rig.world c.args.rig.now) was_it s = subst (λ (v : StoreOf g.row.F.Denot). Kept basis print v.store (g.R.Rig.world c.args.rig.now) was_it s) (sym c.self.view_is) kept in
     let has : HasSlots was i.slots = record { placed = subst (λ (geo : Geometry). AreSlotsOf geo i.slots) (sym c.self.invariant.0) c.self.invariant.4; same = refl } in
-    let held : Kept room print was world was_it s = c.place_block.ensures.kept told room print was was_it s has is base in
+    let held : Kept basis print was world was_it s = c.place_block.ensures.kept told basis print was was_it s has is base in
     let there = sym (block_there i.journal.geo i.slots world.flash.shown c.in-Some.slot has.placed) ∙ subst (λ o. IfSome o (λ slot. block_in i.slots world.flash.shown slot ≡ c.args.block.now)) c.in-Some.is (c.in-Ok.ensures.shows told) in
     let long : length c.args.block.now ≡ i.journal.geo.block = subst (λ (v : StoreOf g.row.F.Denot). length c.args.block.now ≡ v.store.journal.geo.block) (sym c.self.view_is) c.requires.long in
     record {
-      crash = widens (c.place_block.ensures.crash told room print was was_it s has is base) (λ o stands. inl stands);
+      crash = widens (c.place_block.ensures.crash told basis print was was_it s has is base) (λ o stands. inl stands);
       leaves = record {
         committed = was_it;
         either = inl refl;
-        kept = subst (λ (v : StoreView). Kept room print v world was_it (reference (sizes_of c.args.self.now.store.journal.geo) s c.args.address c.args.block.now)) (sym after)
-            (subst (λ (v : StoreOf g.row.F.Denot). Kept room print (referred_store (Store c.args.address c.in-Some.slot c.args.fp c.args.dirty) (touch_by c.args.address (given.Fresh (record { slot = c.in-Some.slot; fp = c.args.fp })) c.args.dirty (listing_in was)) was) world was_it (reference (sizes_of v.store.journal.geo) s c.args.address c.args.block.now)) c.self.view_is
-            (entered_kept i.up i.journal lists i.count i.pending.items i.slots.uses i.laid.items is i.geo c.self.invariant.5 c.self.invariant.0 (g.met.L.Lists.kept i.lists) c.args.address c.in-Some.slot c.args.fp c.args.dirty prepared spare anew print world s held.holds c.args.block.now below long there printed some unknown read room was_it held));
+        kept = subst (λ (v : StoreView). Kept basis print v world was_it (reference (sizes_of c.args.self.now.store.journal.geo) s c.args.address c.args.block.now)) (sym after)
+            (subst (λ (v : StoreOf g.row.F.Denot). Kept basis print (referred_store (Store c.args.address c.in-Some.slot c.args.fp c.args.dirty) (touch_by c.args.address (given.Fresh (record { slot = c.in-Some.slot; fp = c.args.fp })) c.args.dirty (listing_in was)) was) world was_it (reference (sizes_of v.store.journal.geo) s c.args.address c.args.block.now)) c.self.view_is
+            (entered_kept i.up i.journal lists i.count i.pending.items i.slots.uses i.laid.items is i.geo c.self.invariant.5 c.self.invariant.0 (g.met.L.Lists.kept i.lists) c.args.address c.in-Some.slot c.args.fp c.args.dirty prepared spare anew print world s held.holds c.args.block.now below long there printed some unknown read basis was_it held));
       };
     }
 

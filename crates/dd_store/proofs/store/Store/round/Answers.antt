@@ -7,36 +7,36 @@ use Rattle.dd_store.proofs.Serves.{serves_next, serves_down}
 use Rattle.dd_store.proofs.store.Store.round.Goals as goal
 
 pub returns-in-Err-lay_some-clause-serves : goal.returns-in-Err-lay_some-clause-serves
-returns-in-Err-lay_some-clause-serves g c = λ told room was s kept.
+returns-in-Err-lay_some-clause-serves g c = λ told basis was s kept.
     let print = g.F.Fingerprint.printed in
-    serves_next room (print c.args.self.now.print) (print c.commit.new.self.print) (ap print c.commit.ensures.rests.print) (g.R.Rig.clock c.args.rig.now) (g.R.Rig.clock c.commit.new.rig) (g.R.Rig.clock c.lay_some.new.rig)
+    serves_next basis (print c.args.self.now.print) (print c.commit.new.self.print) (ap print c.commit.ensures.rests.print) (g.R.Rig.clock c.args.rig.now) (g.R.Rig.clock c.commit.new.rig) (g.R.Rig.clock c.lay_some.new.rig)
     c.commit.new.self.store c.lay_some.new.self.store (g.R.Rig.world c.commit.new.rig) (g.R.Rig.world c.lay_some.new.rig) was s s tt (Err c.in-Err-lay_some.fault)
-    (c.in-Ok.ensures.serves told room was s kept) (λ k held. c.in-Err-lay_some.ensures.serves told room k s held)
+    (c.in-Ok.ensures.serves told basis was s kept) (λ k held. c.in-Err-lay_some.ensures.serves told basis k s held)
 
 pub returns-in-Ok-mark-clause-serves : goal.returns-in-Ok-mark-clause-serves
-returns-in-Ok-mark-clause-serves g c = λ told room was s kept.
+returns-in-Ok-mark-clause-serves g c = λ told basis was s kept.
     let print = g.F.Fingerprint.printed in
     let world = g.R.Rig.world in
     let clock = g.R.Rig.clock in
-    serves_next room (print c.args.self.now.print) (print c.commit.new.self.print) (ap print c.commit.ensures.rests.print) (clock c.args.rig.now) (clock c.commit.new.rig) (clock c.mark.new.rig)
+    serves_next basis (print c.args.self.now.print) (print c.commit.new.self.print) (ap print c.commit.ensures.rests.print) (clock c.args.rig.now) (clock c.commit.new.rig) (clock c.mark.new.rig)
     c.commit.new.self.store c.mark.new.self.store (world c.commit.new.rig) (world c.mark.new.rig) was s s tt (Ok tt)
-    (c.in-Ok.ensures.serves told room was s kept)
-    (λ k held. serves_next room (print c.commit.new.self.print) (print c.lay_some.new.self.print) (ap print c.lay_some.ensures.print) (clock c.commit.new.rig) (clock c.lay_some.new.rig) (clock c.mark.new.rig)
+    (c.in-Ok.ensures.serves told basis was s kept)
+    (λ k held. serves_next basis (print c.commit.new.self.print) (print c.lay_some.new.self.print) (ap print c.lay_some.ensures.print) (clock c.commit.new.rig) (clock c.lay_some.new.rig) (clock c.mark.new.rig)
     c.lay_some.new.self.store c.mark.new.self.store (world c.lay_some.new.rig) (world c.mark.new.rig) k s s tt (Ok tt)
-    (c.in-Ok-lay_some.ensures.serves told room k s held) (λ j now. c.in-Ok-mark.ensures.serves told room j s now))
+    (c.in-Ok-lay_some.ensures.serves told basis k s held) (λ j now. c.in-Ok-mark.ensures.serves told basis j s now))
 
 pub returns-in-Err-mark-clause-serves : goal.returns-in-Err-mark-clause-serves
-returns-in-Err-mark-clause-serves g c = λ told room was s kept.
+returns-in-Err-mark-clause-serves g c = λ told basis was s kept.
     let print = g.F.Fingerprint.printed in
     let world = g.R.Rig.world in
     let clock = g.R.Rig.clock in
-    serves_down room (print c.args.self.now.print) (clock c.args.rig.now) (clock c.mark.new.rig) c.mark.new.self.store _ (world c.mark.new.rig) was s s c.in-Err-mark.fault c.in-Err-mark.ensures.fault
-    (serves_next room (print c.args.self.now.print) (print c.commit.new.self.print) (ap print c.commit.ensures.rests.print) (clock c.args.rig.now) (clock c.commit.new.rig) (clock c.mark.new.rig)
+    serves_down basis (print c.args.self.now.print) (clock c.args.rig.now) (clock c.mark.new.rig) c.mark.new.self.store _ (world c.mark.new.rig) was s s c.in-Err-mark.fault c.in-Err-mark.ensures.fault
+    (serves_next basis (print c.args.self.now.print) (print c.commit.new.self.print) (ap print c.commit.ensures.rests.print) (clock c.args.rig.now) (clock c.commit.new.rig) (clock c.mark.new.rig)
     c.commit.new.self.store c.mark.new.self.store (world c.commit.new.rig) (world c.mark.new.rig) was s s tt (Err c.in-Err-mark.fault)
-    (c.in-Ok.ensures.serves told room was s kept)
-    (λ k held. serves_next room (print c.commit.new.self.print) (print c.lay_some.new.self.print) (ap print c.lay_some.ensures.print) (clock c.commit.new.rig) (clock c.lay_some.new.rig) (clock c.mark.new.rig)
+    (c.in-Ok.ensures.serves told basis was s kept)
+    (λ k held. serves_next basis (print c.commit.new.self.print) (print c.lay_some.new.self.print) (ap print c.lay_some.ensures.print) (clock c.commit.new.rig) (clock c.lay_some.new.rig) (clock c.mark.new.rig)
     c.lay_some.new.self.store c.mark.new.self.store (world c.lay_some.new.rig) (world c.mark.new.rig) k s s tt (Err c.in-Err-mark.fault)
-    (c.in-Ok-lay_some.ensures.serves told room k s held) (λ j now. c.in-Err-mark.ensures.serves told room j s now)))
+    (c.in-Ok-lay_some.ensures.serves told basis k s held) (λ j now. c.in-Err-mark.ensures.serves told basis j s now)))
 
 pub returns-in-Err-lay_some-clause-holds : goal.returns-in-Err-lay_some-clause-holds
 returns-in-Err-lay_some-clause-holds g c = λ told s holds.

@@ -4,8 +4,8 @@ use Rattle.dd_store.proofs.Serves.{unlaid_serves}
 use Rattle.dd_store.proofs.store.Store.rounds.Goals as goal
 
 pub returns-else-has_along-clause-serves : goal.returns-else-has_along-clause-serves
-returns-else-has_along-clause-serves g c = λ told room was s kept.
-    unlaid_serves room (g.F.Fingerprint.printed c.args.self.now.print) (g.R.Rig.clock c.args.rig.now) c.args.self.now.store c.forget.new.self.store (g.R.Rig.world c.args.rig.now) was s tt c.forget.ensures.store kept
+returns-else-has_along-clause-serves g c = λ told basis was s kept.
+    unlaid_serves basis (g.F.Fingerprint.printed c.args.self.now.print) (g.R.Rig.clock c.args.rig.now) c.args.self.now.store c.forget.new.self.store (g.R.Rig.world c.args.rig.now) was s tt c.forget.ensures.store kept
 
 pub returns-else-has_along-clause-holds : goal.returns-else-has_along-clause-holds
 returns-else-has_along-clause-holds g c = λ told s holds.

@@ -16,7 +16,7 @@ rounds-init g c =
     let now = c.forget.new.self.store in
     let same = c.forget.ensures.store in
     record {
-      serves = λ told room was s kept. unlaid_serves room (g.F.Fingerprint.printed c.args.self.now.print) (g.R.Rig.clock c.args.rig.now) old now (g.R.Rig.world c.args.rig.now) was s tt same kept;
+      serves = λ told basis was s kept. unlaid_serves basis (g.F.Fingerprint.printed c.args.self.now.print) (g.R.Rig.clock c.args.rig.now) old now (g.R.Rig.world c.args.rig.now) was s tt same kept;
       holds = λ told s holds. holds_forgotten (g.F.Fingerprint.printed c.args.self.now.print) old now (g.R.Rig.world c.args.rig.now) s same holds;
       unsaid = λ told. starts (g.R.Rig.clock c.args.rig.now) _;
       said = λ told. refl;
@@ -33,13 +33,13 @@ rounds-init g c =
     }
 
 pub returns-in-Err-clause-serves : goal.returns-in-Err-clause-serves
-returns-in-Err-clause-serves g c = λ told room was s kept.
+returns-in-Err-clause-serves g c = λ told basis was s kept.
     let print = g.F.Fingerprint.printed in
     let world = g.R.Rig.world in
     let clock = g.R.Rig.clock in
-    serves_next room (print c.args.self.now.print) (print c.rounds.self.print) (ap print c.rounds.invariant.print) (clock c.args.rig.now) (clock c.rounds.rig) (clock c.round.new.rig)
+    serves_next basis (print c.args.self.now.print) (print c.rounds.self.print) (ap print c.rounds.invariant.print) (clock c.args.rig.now) (clock c.rounds.rig) (clock c.round.new.rig)
     c.rounds.self.store c.round.new.self.store (world c.rounds.rig) (world c.round.new.rig) was s s tt (Err c.in-Err.fault)
-    (c.rounds.invariant.serves told room was s kept) (λ k held. c.in-Err.ensures.serves told room k s held)
+    (c.rounds.invariant.serves told basis was s kept) (λ k held. c.in-Err.ensures.serves told basis k s held)
 
 pub returns-in-Err-clause-failed : goal.returns-in-Err-clause-failed
 returns-in-Err-clause-failed g c = λ is. cleans_then c.args.self.now.store c.rounds.self.store c.round.new.self.store c.rounds.invariant.rows (c.in-Err.ensures.failed is)
@@ -51,9 +51,9 @@ rounds-preserved g c =
     let world = g.R.Rig.world in
     let clock = g.R.Rig.clock in
     record {
-      serves = λ told room was s kept.
-          serves_next room (print c.args.self.now.print) (print c.rounds.self.print) (ap print i.print) (clock c.args.rig.now) (clock c.rounds.rig) (clock c.round.new.rig)
-          c.rounds.self.store c.round.new.self.store (world c.rounds.rig) (world c.round.new.rig) was s s tt (Ok tt) (i.serves told room was s kept) (λ k held. c.in-Ok.ensures.serves told room k s held);
+      serves = λ told basis was s kept.
+          serves_next basis (print c.args.self.now.print) (print c.rounds.self.print) (ap print i.print) (clock c.args.rig.now) (clock c.rounds.rig) (clock c.round.new.rig)
+          c.rounds.self.store c.round.new.self.store (world c.rounds.rig) (world c.round.new.rig) was s s tt (Ok tt) (i.serves told basis was s kept) (λ k held. c.in-Ok.ensures.serves told basis k s held);
       holds = λ told s holds.
           holds_next {T = Unit {0}} (print c.args.self.now.print) (print c.rounds.self.print) (ap print i.print) c.rounds.self.store c.round.new.self.store (world c.rounds.rig) (world c.round.new.rig) s s (Ok tt)
           (i.holds told s holds) (λ held. c.in-Ok.ensures.holds told s held);

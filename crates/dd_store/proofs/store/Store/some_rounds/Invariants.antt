@@ -1,4 +1,4 @@
-use Rattle.std.proofs.Common.{◌≡◌, ◌+◌, ◌≤◌, ℕ, [], length}
+use Rattle.std.proofs.Common.{◌≡◌, ◌+◌, ◌≤◌, [], length}
 use Rattle.std.specs.Prelude.{Ok, IsTrue}
 use Rattle.dd_rig.specs.Clock.{Elapses}
 use Rattle.dd_rig.specs.Counts.{Frame}
@@ -7,6 +7,7 @@ use Rattle.dd_store.specs.Keeping.{Holds, Kept, slots_shown}
 use Rattle.dd_store.specs.Rounds.{Cleans, KeepsSkipped, LoadsAtMost}
 use Rattle.dd_store.specs.Serving.{Serves}
 use Rattle.dd_store.proofs.store.Store.some_rounds.Given as goal
+use Rattle.dd_store.specs.Meaning.{Basis}
 
 -- rounds so far
 abbrev pub invariant-rounds : goal.invariant-rounds
@@ -16,8 +17,8 @@ invariant-rounds g l =
     let clock = g.R.Rig.clock in
     let printed = g.F.Fingerprint.printed in
     record {
-      serves : g.R.Rig.tells → (room : ℕ) (c s : State) → Kept room (printed l.fn.self.print) l.fn.self.store (world l.fn.rig) c s
-          → Serves {T = Unit {0}} room (printed l.fn.self.print) (Ok tt) (clock l.fn.rig) (clock l.rig) l.self.store (world l.rig) c s s;
+      serves : g.R.Rig.tells → (basis : Basis) (c s : State) → Kept basis (printed l.fn.self.print) l.fn.self.store (world l.fn.rig) c s
+          → Serves {T = Unit {0}} basis (printed l.fn.self.print) (Ok tt) (clock l.fn.rig) (clock l.rig) l.self.store (world l.rig) c s s;
       holds : g.R.Rig.tells → (s : State) → Holds (printed l.fn.self.print) l.fn.self.store (world l.fn.rig) s → Holds (printed l.fn.self.print) l.self.store (world l.rig) s;
       unsaid : g.R.Rig.tells → Elapses (clock l.fn.rig) (clock l.rig) (λ o. o.out ≡ (world l.fn.rig).said);
       said : g.R.Rig.tells → (world l.rig).said ≡ (world l.fn.rig).said;

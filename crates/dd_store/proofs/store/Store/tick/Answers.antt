@@ -26,18 +26,18 @@ write_back-requires-clause-dirty g c =
     ap (λ (v : StoreOf g.row.F.Denot). is_dirty_at c.in-Some.address v.store.table.a) (sym c.self.view_is) ∙ oldest_is_dirty was is c.in-Some.address oldest
 
 pub returns-in-None-clause-serves : goal.returns-in-None-clause-serves
-returns-in-None-clause-serves g c = λ told room was_it s kept.
-    unlaid_serves room (g.F.Fingerprint.printed c.args.self.now.print) (g.R.Rig.clock c.args.rig.now) c.args.self.now.store c.forget.new.self.store (g.R.Rig.world c.args.rig.now) was_it s None c.forget.ensures.store kept
+returns-in-None-clause-serves g c = λ told basis was_it s kept.
+    unlaid_serves basis (g.F.Fingerprint.printed c.args.self.now.print) (g.R.Rig.clock c.args.rig.now) c.args.self.now.store c.forget.new.self.store (g.R.Rig.world c.args.rig.now) was_it s None c.forget.ensures.store kept
 
 pub returns-in-Err-clause-serves : goal.returns-in-Err-clause-serves
-returns-in-Err-clause-serves g c = λ told room was_it s kept.
-    serves_err room (Unit {0}) (Option ℕ) (g.F.Fingerprint.printed c.args.self.now.print) (g.R.Rig.clock c.args.rig.now) (g.R.Rig.clock c.write_back.new.rig) c.write_back.new.self.store (g.R.Rig.world c.write_back.new.rig) was_it s s
-    c.in-Err.fault (c.in-Err.ensures.serves told room was_it s kept)
+returns-in-Err-clause-serves g c = λ told basis was_it s kept.
+    serves_err basis (Unit {0}) (Option ℕ) (g.F.Fingerprint.printed c.args.self.now.print) (g.R.Rig.clock c.args.rig.now) (g.R.Rig.clock c.write_back.new.rig) c.write_back.new.self.store (g.R.Rig.world c.write_back.new.rig) was_it s s
+    c.in-Err.fault (c.in-Err.ensures.serves told basis was_it s kept)
 
 pub returns-in-Ok-clause-serves : goal.returns-in-Ok-clause-serves
-returns-in-Ok-clause-serves g c = λ told room was_it s kept.
-    serves_ok room (g.F.Fingerprint.printed c.args.self.now.print) (g.R.Rig.clock c.args.rig.now) (g.R.Rig.clock c.write_back.new.rig) c.write_back.new.self.store (g.R.Rig.world c.write_back.new.rig) was_it s s
-    tt (Some c.in-Some.address) (c.in-Ok.ensures.serves told room was_it s kept)
+returns-in-Ok-clause-serves g c = λ told basis was_it s kept.
+    serves_ok basis (g.F.Fingerprint.printed c.args.self.now.print) (g.R.Rig.clock c.args.rig.now) (g.R.Rig.clock c.write_back.new.rig) c.write_back.new.self.store (g.R.Rig.world c.write_back.new.rig) was_it s s
+    tt (Some c.in-Some.address) (c.in-Ok.ensures.serves told basis was_it s kept)
 
 pub returns-in-Ok-clause-shows : goal.returns-in-Ok-clause-shows
 returns-in-Ok-clause-shows g c = λ told s holds.

@@ -4,7 +4,7 @@ use Rattle.dd_store.proofs.Calm.{calm_by}
 use Rattle.dd_store.proofs.store.Store.write.Goals as goal
 
 pub returns-clause-serves : goal.returns-clause-serves
-returns-clause-serves g c = λ told room was s kept. c.bring-done.ensures.serves told room was s kept (λ never. absurd (cc never))
+returns-clause-serves g c = λ told basis was s kept. c.bring-done.ensures.serves told basis was s kept (λ never. absurd (cc never))
 
 pub returns-clause-costs : goal.returns-clause-costs
 returns-clause-costs g c = record {

@@ -9,54 +9,54 @@ use Rattle.dd_store.proofs.Serves.{serves_then, serves_down}
 use Rattle.dd_store.proofs.store.Store.write_back.Goals as goal
 
 pub returns-in-Err-lay-clause-serves : goal.returns-in-Err-lay-clause-serves
-returns-in-Err-lay-clause-serves g c = λ told room was s kept.
+returns-in-Err-lay-clause-serves g c = λ told basis was s kept.
     let first = g.R.Rig.clock c.args.rig.now in
     let middle = g.R.Rig.clock c.commit.new.rig in
     let last = g.R.Rig.clock c.lay.new.rig in
-    let committed = c.in-Ok.ensures.serves told room was s kept in
-    serves_then room (g.F.Fingerprint.printed c.args.self.now.print) first middle last c.commit.new.self.store c.lay.new.self.store (g.R.Rig.world c.commit.new.rig) (g.R.Rig.world c.lay.new.rig) was s s
+    let committed = c.in-Ok.ensures.serves told basis was s kept in
+    serves_then basis (g.F.Fingerprint.printed c.args.self.now.print) first middle last c.commit.new.self.store c.lay.new.self.store (g.R.Rig.world c.commit.new.rig) (g.R.Rig.world c.lay.new.rig) was s s
     (Err c.in-Err-lay.fault) committed.crash committed.leaves
-    (λ k held. subst (λ f. Serves {T = Unit {0}} room (g.F.Fingerprint.printed f) (Err c.in-Err-lay.fault) middle last c.lay.new.self.store (g.R.Rig.world c.lay.new.rig) k s s) c.commit.ensures.rests.print
-    (c.in-Err-lay.ensures.serves told room k s (subst (λ f. Kept room (g.F.Fingerprint.printed f) c.commit.new.self.store (g.R.Rig.world c.commit.new.rig) k s) (sym c.commit.ensures.rests.print) held)))
+    (λ k held. subst (λ f. Serves {T = Unit {0}} basis (g.F.Fingerprint.printed f) (Err c.in-Err-lay.fault) middle last c.lay.new.self.store (g.R.Rig.world c.lay.new.rig) k s s) c.commit.ensures.rests.print
+    (c.in-Err-lay.ensures.serves told basis k s (subst (λ f. Kept basis (g.F.Fingerprint.printed f) c.commit.new.self.store (g.R.Rig.world c.commit.new.rig) k s) (sym c.commit.ensures.rests.print) held)))
 
 pub returns-in-Ok-mark-clause-serves : goal.returns-in-Ok-mark-clause-serves
-returns-in-Ok-mark-clause-serves g c = λ told room was s kept.
+returns-in-Ok-mark-clause-serves g c = λ told basis was s kept.
     let print = g.F.Fingerprint.printed c.args.self.now.print in
     let first = g.R.Rig.clock c.args.rig.now in
     let second = g.R.Rig.clock c.commit.new.rig in
     let third = g.R.Rig.clock c.lay.new.rig in
     let last = g.R.Rig.clock c.mark.new.rig in
     let same = c.lay.ensures.print ∙ c.commit.ensures.rests.print in
-    let committed = c.in-Ok.ensures.serves told room was s kept in
-    serves_then room print first second last c.commit.new.self.store c.mark.new.self.store (g.R.Rig.world c.commit.new.rig) (g.R.Rig.world c.mark.new.rig) was s s
+    let committed = c.in-Ok.ensures.serves told basis was s kept in
+    serves_then basis print first second last c.commit.new.self.store c.mark.new.self.store (g.R.Rig.world c.commit.new.rig) (g.R.Rig.world c.mark.new.rig) was s s
     (Ok tt) committed.crash committed.leaves
     (λ k held.
-    let laid = c.in-Ok-lay.ensures.serves told room k s (subst (λ f. Kept room (g.F.Fingerprint.printed f) c.commit.new.self.store (g.R.Rig.world c.commit.new.rig) k s) (sym c.commit.ensures.rests.print) held) in
-    subst (λ f. Serves {T = Unit {0}} room (g.F.Fingerprint.printed f) (Ok tt) second last c.mark.new.self.store (g.R.Rig.world c.mark.new.rig) k s s) c.commit.ensures.rests.print
-    (serves_then room (g.F.Fingerprint.printed c.commit.new.self.print) second third last c.lay.new.self.store c.mark.new.self.store (g.R.Rig.world c.lay.new.rig) (g.R.Rig.world c.mark.new.rig) k s s
+    let laid = c.in-Ok-lay.ensures.serves told basis k s (subst (λ f. Kept basis (g.F.Fingerprint.printed f) c.commit.new.self.store (g.R.Rig.world c.commit.new.rig) k s) (sym c.commit.ensures.rests.print) held) in
+    subst (λ f. Serves {T = Unit {0}} basis (g.F.Fingerprint.printed f) (Ok tt) second last c.mark.new.self.store (g.R.Rig.world c.mark.new.rig) k s s) c.commit.ensures.rests.print
+    (serves_then basis (g.F.Fingerprint.printed c.commit.new.self.print) second third last c.lay.new.self.store c.mark.new.self.store (g.R.Rig.world c.lay.new.rig) (g.R.Rig.world c.mark.new.rig) k s s
     (Ok tt) laid.crash laid.leaves
-    (λ j now. subst (λ f. Serves {T = Unit {0}} room (g.F.Fingerprint.printed f) (Ok tt) third last c.mark.new.self.store (g.R.Rig.world c.mark.new.rig) j s s) c.lay.ensures.print
-    (c.in-Ok-mark.ensures.serves told room j s (subst (λ f. Kept room (g.F.Fingerprint.printed f) c.lay.new.self.store (g.R.Rig.world c.lay.new.rig) j s) (sym c.lay.ensures.print) now)))))
+    (λ j now. subst (λ f. Serves {T = Unit {0}} basis (g.F.Fingerprint.printed f) (Ok tt) third last c.mark.new.self.store (g.R.Rig.world c.mark.new.rig) j s s) c.lay.ensures.print
+    (c.in-Ok-mark.ensures.serves told basis j s (subst (λ f. Kept basis (g.F.Fingerprint.printed f) c.lay.new.self.store (g.R.Rig.world c.lay.new.rig) j s) (sym c.lay.ensures.print) now)))))
 
 pub returns-in-Err-mark-clause-serves : goal.returns-in-Err-mark-clause-serves
-returns-in-Err-mark-clause-serves g c = λ told room was s kept.
+returns-in-Err-mark-clause-serves g c = λ told basis was s kept.
     let print = g.F.Fingerprint.printed c.args.self.now.print in
     let first = g.R.Rig.clock c.args.rig.now in
     let second = g.R.Rig.clock c.commit.new.rig in
     let third = g.R.Rig.clock c.lay.new.rig in
     let last = g.R.Rig.clock c.mark.new.rig in
     let same = c.lay.ensures.print ∙ c.commit.ensures.rests.print in
-    let committed = c.in-Ok.ensures.serves told room was s kept in
-    serves_down room print first last c.mark.new.self.store _ (g.R.Rig.world c.mark.new.rig) was s s c.in-Err-mark.fault c.in-Err-mark.ensures.fault
-    (serves_then room print first second last c.commit.new.self.store c.mark.new.self.store (g.R.Rig.world c.commit.new.rig) (g.R.Rig.world c.mark.new.rig) was s s
+    let committed = c.in-Ok.ensures.serves told basis was s kept in
+    serves_down basis print first last c.mark.new.self.store _ (g.R.Rig.world c.mark.new.rig) was s s c.in-Err-mark.fault c.in-Err-mark.ensures.fault
+    (serves_then basis print first second last c.commit.new.self.store c.mark.new.self.store (g.R.Rig.world c.commit.new.rig) (g.R.Rig.world c.mark.new.rig) was s s
     (Err c.in-Err-mark.fault) committed.crash committed.leaves
     (λ k held.
-    let laid = c.in-Ok-lay.ensures.serves told room k s (subst (λ f. Kept room (g.F.Fingerprint.printed f) c.commit.new.self.store (g.R.Rig.world c.commit.new.rig) k s) (sym c.commit.ensures.rests.print) held) in
-    subst (λ f. Serves {T = Unit {0}} room (g.F.Fingerprint.printed f) (Err c.in-Err-mark.fault) second last c.mark.new.self.store (g.R.Rig.world c.mark.new.rig) k s s) c.commit.ensures.rests.print
-    (serves_then room (g.F.Fingerprint.printed c.commit.new.self.print) second third last c.lay.new.self.store c.mark.new.self.store (g.R.Rig.world c.lay.new.rig) (g.R.Rig.world c.mark.new.rig) k s s
+    let laid = c.in-Ok-lay.ensures.serves told basis k s (subst (λ f. Kept basis (g.F.Fingerprint.printed f) c.commit.new.self.store (g.R.Rig.world c.commit.new.rig) k s) (sym c.commit.ensures.rests.print) held) in
+    subst (λ f. Serves {T = Unit {0}} basis (g.F.Fingerprint.printed f) (Err c.in-Err-mark.fault) second last c.mark.new.self.store (g.R.Rig.world c.mark.new.rig) k s s) c.commit.ensures.rests.print
+    (serves_then basis (g.F.Fingerprint.printed c.commit.new.self.print) second third last c.lay.new.self.store c.mark.new.self.store (g.R.Rig.world c.lay.new.rig) (g.R.Rig.world c.mark.new.rig) k s s
     (Err c.in-Err-mark.fault) laid.crash laid.leaves
-    (λ j now. subst (λ f. Serves {T = Unit {0}} room (g.F.Fingerprint.printed f) (Err c.in-Err-mark.fault) third last c.mark.new.self.store (g.R.Rig.world c.mark.new.rig) j s s) c.lay.ensures.print
-    (c.in-Err-mark.ensures.serves told room j s (subst (λ f. Kept room (g.F.Fingerprint.printed f) c.lay.new.self.store (g.R.Rig.world c.lay.new.rig) j s) (sym c.lay.ensures.print) now))))))
+    (λ j now. subst (λ f. Serves {T = Unit {0}} basis (g.F.Fingerprint.printed f) (Err c.in-Err-mark.fault) third last c.mark.new.self.store (g.R.Rig.world c.mark.new.rig) j s s) c.lay.ensures.print
+    (c.in-Err-mark.ensures.serves told basis j s (subst (λ f. Kept basis (g.F.Fingerprint.printed f) c.lay.new.self.store (g.R.Rig.world c.lay.new.rig) j s) (sym c.lay.ensures.print) now))))))
 
 pub returns-in-Ok-mark-clause-grows : goal.returns-in-Ok-mark-clause-grows
 returns-in-Ok-mark-clause-grows g c =
