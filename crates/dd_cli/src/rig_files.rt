@@ -1,13 +1,14 @@
 // Two files and a writer as a rig.
 ghost use Rattle.std.specs.Prelude.{◌≡◌, ◌^◌, ◌<◌};
 
+use crate::trouble::{Trouble, Troubles, name_of};
 use dd_rig::{Counts, Dev, Failed, Rig};
 use std::fs::File;
 use std::io::Write;
 use std::os::unix::fs::FileExt;
 
 /// The flash and the disk as files that are never grown, and the output as a writer. It tells no
-/// bytes, and keeps each count.
+/// bytes, and keeps each count, and what the system answered where a call failed.
 #[derive(Drop)]
 pub struct RigFiles<W> {
     flash: File,
@@ -16,6 +17,7 @@ pub struct RigFiles<W> {
     disk_size: u64,
     out: W,
     counts: Counts,
+    troubles: Troubles,
     ghost flash_fits: { flash_size < 2 ^ 64 },
     ghost disk_fits: { disk_size < 2 ^ 64 },
 }
@@ -32,7 +34,12 @@ impl<W> RigFiles<W> {
             disk_size,
             out,
             counts: Counts::new(),
+            troubles: Troubles::none(),
         }
+    }
+
+    pub fn troubles(&self) -> &Troubles {
+        &self.troubles
     }
 
     fn file(&self, dev: Dev) -> &File {
@@ -76,25 +83,62 @@ impl<W: Write> Rig for RigFiles<W> {
     }
 
     fn read(&mut self, dev: Dev, at: u64, into: &mut [u8]) -> Result<(), Failed> {
-        let answer = self.file(dev).read_exact_at(into, at).map_err(|_| Failed);
+        let answer = match self.file(dev).read_exact_at(into, at) {
+            Ok(()) => Ok(()),
+            Err(error) => {
+                self.troubles.note(Trouble::Read {
+                    device: name_of(dev),
+                    at,
+                    size: into.len(),
+                    error,
+                });
+                Err(Failed)
+            }
+        };
         self.counts.add_read(dev, &answer);
         answer
     }
 
     fn write(&mut self, dev: Dev, at: u64, from: &[u8]) -> Result<(), Failed> {
-        let answer = self.file(dev).write_all_at(from, at).map_err(|_| Failed);
+        let answer = match self.file(dev).write_all_at(from, at) {
+            Ok(()) => Ok(()),
+            Err(error) => {
+                self.troubles.note(Trouble::Write {
+                    device: name_of(dev),
+                    at,
+                    size: from.len(),
+                    error,
+                });
+                Err(Failed)
+            }
+        };
         self.counts.add_write(dev, from.len() as u64, &answer);
         answer
     }
 
     fn sync(&mut self, dev: Dev) -> Result<(), Failed> {
-        let answer = self.file(dev).sync_data().map_err(|_| Failed);
+        let answer = match self.file(dev).sync_data() {
+            Ok(()) => Ok(()),
+            Err(error) => {
+                self.troubles.note(Trouble::Sync {
+                    device: name_of(dev),
+                    error,
+                });
+                Err(Failed)
+            }
+        };
         self.counts.add_sync(dev, &answer);
         answer
     }
 
     fn emit(&mut self, piece: &[u8]) -> Result<(), Failed> {
-        let answer = self.out.write_all(piece).map_err(|_| Failed);
+        let answer = match self.out.write_all(piece) {
+            Ok(()) => Ok(()),
+            Err(error) => {
+                self.troubles.note(Trouble::Emit { error });
+                Err(Failed)
+            }
+        };
         self.counts.add_emit(&answer);
         answer
     }
