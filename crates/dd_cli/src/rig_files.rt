@@ -1,7 +1,7 @@
 // Two files and a writer as a rig.
 ghost use Rattle.std.specs.Prelude.{◌≡◌, ◌^◌, ◌<◌};
 
-use crate::trouble::{Trouble, Troubles, name_of};
+use crate::trouble::{Trouble, Troubles};
 use dd_rig::{Counts, Dev, Failed, Rig};
 use std::fs::File;
 use std::io::Write;
@@ -87,7 +87,7 @@ impl<W: Write> Rig for RigFiles<W> {
             Ok(()) => Ok(()),
             Err(error) => {
                 self.troubles.note(Trouble::Read {
-                    device: name_of(dev),
+                    dev,
                     at,
                     size: into.len(),
                     error,
@@ -104,7 +104,7 @@ impl<W: Write> Rig for RigFiles<W> {
             Ok(()) => Ok(()),
             Err(error) => {
                 self.troubles.note(Trouble::Write {
-                    device: name_of(dev),
+                    dev,
                     at,
                     size: from.len(),
                     error,
@@ -120,10 +120,7 @@ impl<W: Write> Rig for RigFiles<W> {
         let answer = match self.file(dev).sync_data() {
             Ok(()) => Ok(()),
             Err(error) => {
-                self.troubles.note(Trouble::Sync {
-                    device: name_of(dev),
-                    error,
-                });
+                self.troubles.note(Trouble::Sync { dev, error });
                 Err(Failed)
             }
         };

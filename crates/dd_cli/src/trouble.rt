@@ -7,23 +7,23 @@ use thiserror::Error;
 /// A call that failed, and why.
 #[derive(Clone, Copy, Debug, Error)]
 pub enum Trouble {
-    #[error("{device}: {size} bytes can't be read at {at}: {error}")]
+    #[error("{}: {size} bytes can't be read at {at}: {error}", name_of(.dev))]
     Read {
-        device: &'static str,
+        dev: Dev,
         at: u64,
         size: usize,
         error: io::Error,
     },
-    #[error("{device}: {size} bytes can't be written at {at}: {error}")]
+    #[error("{}: {size} bytes can't be written at {at}: {error}", name_of(.dev))]
     Write {
-        device: &'static str,
+        dev: Dev,
         at: u64,
         size: usize,
         error: io::Error,
     },
-    #[error("{device}: no sync: {error}")]
+    #[error("{}: no sync: {error}", name_of(.dev))]
     Sync {
-        device: &'static str,
+        dev: Dev,
         error: io::Error,
     },
     #[error("output: {error}")]
@@ -67,8 +67,8 @@ impl Troubles {
     }
 }
 
-/// How a device is called in a line.
-pub fn name_of(dev: Dev) -> &'static str {
+// How a device is called in a line.
+fn name_of(dev: &Dev) -> &'static str {
     match dev {
         Dev::Flash => "flash",
         Dev::Disk => "disk",
@@ -85,14 +85,14 @@ mod tests {
         let error = io::Error::other("gone");
         let mut troubles = Troubles::none();
         troubles.note(Trouble::Read {
-            device: name_of(Dev::Flash),
+            dev: Dev::Flash,
             at: 8192,
             size: 4096,
             error,
         });
         troubles.note(Trouble::Take { error });
         troubles.note(Trouble::Write {
-            device: name_of(Dev::Disk),
+            dev: Dev::Disk,
             at: 0,
             size: 16,
             error,
